@@ -1,0 +1,17 @@
+pub mod Promises
+pub mod Completing
+pub mod Initials
+pub mod DomainFiles
+pub mod Splicing
+pub mod LogWords
+pub mod LogEnd
+pub mod LogFrame
+pub mod LogNames
+pub mod LogPlaces
+pub mod Reading
+pub mod LogSpelling
+pub mod Outcomes
+pub mod GoalSteps
+pub mod JudgeSteps
+pub mod Numbered
+pub mod Answering

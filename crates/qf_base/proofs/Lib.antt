@@ -1,0 +1,3 @@
+pub mod Pieces
+pub mod Integers
+pub mod BoxLaws

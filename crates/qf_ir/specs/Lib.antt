@@ -1,0 +1,14 @@
+pub mod Value
+pub mod Replay
+pub mod Life
+pub mod Repairs
+pub mod Goals
+pub mod Width
+pub mod Flow
+pub mod ColumnSets
+pub mod Texts
+pub mod Faults
+pub mod Fits
+pub mod Typed
+pub mod Plan
+pub mod Laws

@@ -1,0 +1,4 @@
+pub mod Steps
+pub mod DomainSteps
+pub mod PointLaws
+pub mod Leasts

@@ -1,0 +1,12 @@
+//! Tables read from CSV, and final rows written as CSV.
+#![tactic(auto)]
+
+mod cells;
+mod fault;
+mod header;
+mod print;
+mod reading;
+
+pub use fault::TableFault;
+pub use print::print_table;
+pub use reading::read_table;

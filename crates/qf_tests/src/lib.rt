@@ -1,0 +1,15 @@
+//! Tests that run the crates on worked examples, from outside. The library itself has nothing.
+#![tactic(auto)]
+
+#[cfg(test)]
+mod base;
+#[cfg(test)]
+mod csv_files;
+#[cfg(test)]
+mod diagnose;
+#[cfg(test)]
+mod forms;
+#[cfg(test)]
+mod lex;
+#[cfg(test)]
+mod tables;
