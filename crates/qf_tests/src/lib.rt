@@ -12,4 +12,6 @@ mod forms;
 #[cfg(test)]
 mod lex;
 #[cfg(test)]
+mod points;
+#[cfg(test)]
 mod tables;
