@@ -64,6 +64,15 @@ impl Name {
         Ok(Name { text })
     }
 
+    /// An equal name.
+    pub fn copy(&self, alloc: Global) -> Result<Name, NoMemory>
+        ensures { IfOk result (λ name. name ≡ self.now) }
+    {
+        Ok(Name {
+            text: String::from_str(alloc, self.text.as_str())?,
+        })
+    }
+
     /// The name as a slice.
     pub fn as_str(&self) -> &str
         ensures { result.now ≡ self.now }

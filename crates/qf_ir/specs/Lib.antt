@@ -10,5 +10,12 @@ pub mod Texts
 pub mod Faults
 pub mod Fits
 pub mod Typed
+pub mod Tables
+pub mod Parts
+pub mod Made
 pub mod Plan
+pub mod Numbered
+pub mod Checked
+pub mod Tallies
+pub mod Steps
 pub mod Laws

@@ -14,7 +14,8 @@ use Rattle.qf_point.specs.Points.{In, is_in}
 use Rattle.qf_point.specs.declared.domains.DomainRow.{DomainRow}
 use Rattle.qf_point.specs.declared.domains.DomainFault.{DomainFault}
 use Rattle.qf_point.specs.declared.domains.DomainFault.TheVariants.{Empty, TooLarge, MissesOld}
-use Rattle.qf_point.specs.Domains.{row_of, is_small, fault_of, domain_of, or_else, first_fault, domains_from, sliced_from}
+use Rattle.std.proofs.lemmas.Bool.{false≢true}
+use Rattle.qf_point.specs.Domains.{AreSmall, HasSmallEnds, row_of, is_small, fault_of, domain_of, or_else, first_fault, domains_from, sliced_from}
 
 no_fault : (k : ℕ) (a b c : Bool)
     → cond {A = Option DomainFault} a (Some (Empty k)) (cond (not b) (Some (TooLarge k)) (cond (not c) (Some (MissesOld k)) None)) ≡ None → c ≡ true
@@ -43,6 +44,29 @@ domains_hold k (old ∷ olds) rows e =
     let parts = or_else-None (fault_of k old (row_of rows k)) (first_fault (k + 1) olds rows) e in
     let here = in_domain k old (row_of rows k) parts.0 in
     (here.0, here.1, domains_hold (k + 1) olds rows parts.1)
+
+small_ends : (k : ℕ) (a b c : Bool)
+    → cond {A = Option DomainFault} a (Some (Empty k)) (cond (not b) (Some (TooLarge k)) (cond (not c) (Some (MissesOld k)) None)) ≡ None → b ≡ true
+small_ends k a true c e = refl
+small_ends k true false c e = absurd (none-some _ (sym e))
+small_ends k false false c e = absurd (none-some _ (sym e))
+
+both_small : (a b : Bool) → (a && b) ≡ true → (a ≡ true) × (b ≡ true)
+both_small true b e = (refl, e)
+both_small false b e = absurd (false≢true e)
+
+ends_of : (k : ℕ) (old : ℤ) (row : Option DomainRow) → is_small old ≡ true → fault_of k old row ≡ None → (is_small (domain_of old row).0 ≡ true) × (is_small (domain_of old row).1 ≡ true)
+ends_of k old None is e = (is, is)
+ends_of k old (Some row) is e =
+    both_small (is_small row.lo) (is_small row.hi)
+    (small_ends k (int_lt row.hi row.lo) (is_small row.lo && is_small row.hi) (int_le row.lo old && int_le old row.hi) e)
+
+-- where the old constants are small and no parameter has a fault, the ends of the domains are small
+pub domains_small : (k : ℕ) (olds : List ℤ) (rows : List DomainRow) → first_fault k olds rows ≡ None → AreSmall olds → HasSmallEnds (domains_from k olds rows)
+domains_small k [] rows e small = tt
+domains_small k (old ∷ olds) rows e small =
+    let parts = or_else-None (fault_of k old (row_of rows k)) (first_fault (k + 1) olds rows) e in
+    (ends_of k old (row_of rows k) small.0 parts.0, domains_small (k + 1) olds rows parts.1 small.1)
 
 -- one more parameter
 put_step : (region next rest whole : Bounds) (i : ℕ) (w : Interval) → i < length region → next ≡ slice_set region i w
@@ -112,10 +136,10 @@ domains_end olds rows region whole i past_olds past left =
 
 pub new_holds : (olds copy : List ℤ) (rows : List DomainRow) (region : Bounds) (i : ℕ) → length olds ≤ i → length region ≤ i
     → first_fault (i + 1) (drop i olds) rows ≡ first_fault 1 olds rows
-    → take i region ++ domains_from (i + 1) (drop i olds) rows ≡ domains_from 1 olds rows → copy ≡ olds → In region copy
+    → take i region ++ domains_from (i + 1) (drop i olds) rows ≡ domains_from 1 olds rows → copy ≡ olds → In region copy × (AreSmall copy → HasSmallEnds region)
 new_holds olds copy rows region i past_olds past faults left same =
     let none : first_fault 1 olds rows ≡ None = sym faults ∙ ap (λ os. first_fault (i + 1) os rows) (drop_none olds i past_olds) in
-    rw (same, domains_end olds rows region (domains_from 1 olds rows) i past_olds past left) (domains_hold 1 olds rows none)
+    rw (same, domains_end olds rows region (domains_from 1 olds rows) i past_olds past left) (domains_hold 1 olds rows none, domains_small 1 olds rows none)
 
 -- a point of another length is in no box
 pub other_length : (region : Bounds) (point : List ℤ) → length point ≢ length region → false ≡ is_in region point

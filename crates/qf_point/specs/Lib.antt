@@ -1,5 +1,5 @@
 pub mod Points
 pub mod Least
 pub mod Bests
-pub mod Rows
 pub mod Domains
+pub mod Noted

@@ -1,7 +1,8 @@
-ghost use Rattle.std.specs.Prelude.{◌≡◌, ◌≢◌, ◌<◌, ◌+◌, ◌^◌, Some, None, length, IfOk, IfErr, OnOk, if◌then◌else◌, int_le, ◌&&◌};
+ghost use Rattle.std.specs.Prelude.{◌≡◌, ◌≢◌, ◌<◌, ◌+◌, ◌^◌, Some, None, length, IfOk, IfErr, OnOk, if◌then◌else◌, int_le, ◌&&◌, IfSome};
 ghost use Rattle.qf_point.specs.Points.{In, is_in};
 ghost use Rattle.qf_point.specs.Domains as small;
-ghost use Rattle.qf_point.specs.Domains.{row_of, fault_of, domain_of, first_fault, domains_from, sliced_from, refusal_of};
+ghost use Rattle.qf_point.specs.Domains.{AreSmall, HasSmallEnds, fault_of, domain_of, first_fault, domains_from, sliced_from, refusal_of};
+ghost use Rattle.qf_point.specs.Noted.{noted, places_from, row_at};
 
 use qf_base::{Intervals, Kind, List, NoMemory, PBox, ParamSet, Point, Refusal};
 use std::alloc::Global;
@@ -58,25 +59,54 @@ pub struct Domains {
 }
 
 impl Model for Domains {
-    ghost use Rattle.qf_point.specs.Domains.{DomainBox};
+    ghost use Rattle.qf_point.specs.Domains.{DomainBox, AreSmall, HasSmallEnds};
     ghost use Rattle.qf_point.specs.Points.{In};
 
     ghost Value = { DomainBox };
 
     ghost view = { λ d. record { olds = d.olds; region = d.region } };
 
-    ghost invariant = { λ d. In d.region d.olds };
+    ghost invariant = { λ d. In d.region d.olds × (AreSmall d.olds → HasSmallEnds d.region) };
 }
 
-fn find_row(rows: &[DomainRow], param: u32) -> Option<DomainRow>
-    ensures { result ≡ row_of rows.now param }
+// Notes the place of a parameter's record, where there is such a parameter and no place is noted.
+fn note(found: &mut Vec<Option<usize>>, param: u32, at: usize)
+    ensures { found.new.items ≡ noted found.old.items param at }
 {
-    for row in rows {
-        if row.param == param {
-            return Some(*row);
-        }
+    if param == 0 {
+        return;
     }
-    None
+    let place = param as usize - 1;
+    if place < found.len() && found[place].is_none() {
+        found[place] = Some(at);
+    }
+}
+
+// The place of each parameter's record, the first where there are more.
+fn places_by_param(
+    alloc: Global,
+    rows: &[DomainRow],
+    params: u64,
+) -> Result<Vec<Option<usize>>, NoMemory>
+    ensures places { IfOk result (λ found. found.items ≡ places_from 1 params rows.now) }
+    ensures len { IfOk result (λ found. length found.items ≡ params) }
+{
+    let mut found = vec![in alloc; None::<usize>; params as usize]?;
+    for at in 0..rows.len() {
+        note(&mut found, rows[at].param, at);
+    }
+    Ok(found)
+}
+
+// The record at a place.
+fn row_at(rows: &[DomainRow], at: Option<usize>) -> Option<DomainRow>
+    requires { IfSome at (λ place. place < length rows.now) }
+    ensures { result ≡ row_at rows.now at }
+{
+    match at {
+        Some(place) => Some(rows[place]),
+        None => None,
+    }
 }
 
 fn is_small(number: i64) -> bool
@@ -132,9 +162,10 @@ impl Domains {
         ensures fault { IfErr result (λ fault. fault ≢ DomainFault.NoMemory → first_fault 1 olds.now rows.now ≡ Some fault) }
     {
         let mut region = Intervals::new(alloc, olds.len() as u32)?;
+        let records = rows.as_slice();
+        let found = places_by_param(alloc, records, olds.len())?;
         for (i, old) in olds.as_slice().iter().enumerate() {
-            let param = i as u32 + 1;
-            match domain(find_row(rows.as_slice(), param), param, *old) {
+            match domain(row_at(records, found[i]), i as u32 + 1, *old) {
                 Ok((lo, hi)) => region.set(i as u32, lo, hi),
                 Err(fault) => return Err(fault),
             }
@@ -154,10 +185,13 @@ impl Domains {
         self.region.copy(self.alloc)
     }
 
-    /// The domains as intervals.
+    /// The domains as intervals, one for each parameter, each of which holds the old constant. Where the old constants lie
+    /// within 2^50 in size, the ends of all domains do.
     pub fn region(&self) -> &PBox
         ensures region { result.now ≡ self.now.region }
         ensures old { In self.now.region self.now.olds }
+        ensures many { length self.now.region ≡ length self.now.olds }
+        ensures small { AreSmall self.now.olds → HasSmallEnds self.now.region }
     {
         &self.region
     }

@@ -7,11 +7,11 @@ use Rattle.qf_point.proofs.DomainSteps.{sliced_step, sliced_end}
 use Rattle.qf_point.proofs.domains.Domains.slice.Goals as goal
 
 pub at-old-requires : goal.at-old-requires
-at-old-requires c = omega (arith, length-In c.self.inside.region c.self.inside.olds c.self.invariant)
+at-old-requires c = omega (arith, length-In c.self.inside.region c.self.inside.olds c.self.invariant.0)
 
 pub returns : goal.returns
 returns c =
-    let same = length-In c.self.inside.region c.self.inside.olds c.self.invariant in
+    let same = length-In c.self.inside.region c.self.inside.olds c.self.invariant.0 in
     let olds = ap (λ d. length d.olds) c.self.view_is in
     let domains = ap (λ d. length d.region) c.self.view_is in
     sliced_end c.args.self.now.olds c.args.self.now.region c.loop-i.region _ c.args.needed.now c.loop-i.i (omega (arith, same, olds, domains)) (omega (arith, same, olds, domains)) c.loop-i.invariant.whole
