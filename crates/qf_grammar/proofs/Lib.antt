@@ -1,0 +1,12 @@
+pub mod Further
+pub mod Chains
+pub mod Units
+pub mod Views
+pub mod Spelled
+pub mod ReadAgain
+pub mod ConditionLaws
+pub mod StatementLaws
+pub mod Pieces
+pub mod UsageLaws
+pub mod JudgingLaws
+pub mod StatedLaws

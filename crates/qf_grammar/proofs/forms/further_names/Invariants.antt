@@ -1,0 +1,8 @@
+use Rattle.std.proofs.Common.{◌≡◌, ◌-◌, length}
+use Rattle.qf_grammar.specs.Reading.{further_at}
+use Rattle.qf_grammar.specs.Reading.{comma_at, one_at, name_of}
+use Rattle.qf_grammar.proofs.Further.{with_front}
+use Rattle.qf_grammar.proofs.forms.further_names.Given as goal
+
+abbrev pub invariant-loop : goal.invariant-loop
+invariant-loop l = with_front l.names (further_at (comma_at (one_at name_of)) (length l.lexemes - l.counter) l.rest) ≡ further_at (comma_at (one_at name_of)) (length l.lexemes) l.lexemes

@@ -1,0 +1,12 @@
+pub mod Found
+pub mod Conditions
+pub mod Lists
+pub mod Bytes
+pub mod LexedLaws
+pub mod ParseFacts
+pub mod CondParts
+pub mod ExprParts
+pub mod MadeFacts
+pub mod Ordering
+pub mod Apart
+pub mod ReadyLaws

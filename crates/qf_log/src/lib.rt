@@ -1,0 +1,14 @@
+//! A log: its statements over its own names and texts, and where its constants stand.
+#![tactic(auto)]
+
+mod laws;
+mod lexing;
+mod lowering;
+mod parsing;
+mod places;
+mod words;
+
+pub use laws::logs_are_ready;
+pub use parsing::{Log, parse};
+pub use places::ParamPlace;
+pub use qf_grammar::LogFault;
