@@ -1,0 +1,2 @@
+pub mod BirthPlaces
+pub mod Rows
