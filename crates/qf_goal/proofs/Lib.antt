@@ -1,0 +1,10 @@
+pub mod ListLemmas
+pub mod RowLemmas
+pub mod MarkLemmas
+pub mod GoalSteps
+pub mod TextLemmas
+pub mod AskLemmas
+pub mod AimLemmas
+pub mod SoundLemmas
+pub mod KeptLemmas
+pub mod WorkedRows
