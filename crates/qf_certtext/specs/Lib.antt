@@ -1,0 +1,6 @@
+pub mod Spelling
+pub mod Words
+pub mod Views
+pub mod Drafts
+pub mod Room
+pub mod Texts
