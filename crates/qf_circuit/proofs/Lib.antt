@@ -1,0 +1,4 @@
+pub mod Built
+pub mod HullLemmas
+pub mod PointHulls
+pub mod Steps

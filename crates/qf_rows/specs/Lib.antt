@@ -1,0 +1,4 @@
+pub mod Encoding
+pub mod Limits
+pub mod Sums
+pub mod Systems

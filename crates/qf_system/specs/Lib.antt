@@ -1,0 +1,3 @@
+pub mod SystemsMade
+pub mod WidthsKept
+pub mod PlainLogs
