@@ -1,0 +1,13 @@
+pub mod Lists
+pub mod Chains
+pub mod BoardLaws
+pub mod Truth
+pub mod Others
+pub mod Finds
+pub mod KeySets
+pub mod Keeps
+pub mod Cuts
+pub mod Takes
+pub mod Walks
+pub mod Trees
+pub mod WorkedRows

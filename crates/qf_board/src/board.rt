@@ -1,0 +1,223 @@
+ghost use Rattle.std.specs.Prelude.{◌≡◌, ◌<◌, length, IfOk, OnOk, OnErr};
+ghost use Rattle.std.specs.Option.{is_some, option_copied};
+ghost use Rattle.std.specs.List.{list_any};
+ghost use Rattle.qf_point.specs.Points.{HasNoEmpty};
+ghost use Rattle.qf_board.specs.Boards.{start, after, Take, Cut, GiveBack, Refute, Found, Holds, HoldsNone, CanHappen, boxes, is_wanted, best_box, node_count, has_ended, tree_of};
+
+use crate::keys::{Key, best_open, key_of};
+use crate::nodes::{BoxNode, Kind, Link, held_by, let_go, put_kind, put_split};
+use crate::parts::{add_parts, cut_parts};
+use crate::tree::nodes_of;
+use qf_base::{List, NoMemory, PBox, Point, RowName};
+use qf_lin::Step;
+use qf_point::{Best, cheapest};
+use qf_tree::Tree;
+use std::alloc::Global;
+use std::collections::BTreeSet;
+use std::marker::Model;
+
+/// A tree of boxes over a root box, with the best point found. A leaf is open, held by an explorer, or refuted. Explorers
+/// are numbers from 0, and each holds at most one box. The key of a box is its cheapest point.
+#[derive(Drop)]
+pub struct Board {
+    alloc: Global,
+    root: PBox,
+    olds: List<i64>,
+    links: Vec<Link>,
+    held: Vec<Option<usize>>,
+    left: BTreeSet<Key>,
+    counted: u64,
+    holding: u64,
+    best: Best,
+    room: Point,
+}
+
+impl Model for Board {
+    ghost use Rattle.qf_board.specs.Boards.{BoardState};
+    ghost use Rattle.qf_board.specs.Kept.{state_of, IsKept};
+
+    ghost Value = { BoardState };
+
+    ghost view = { state_of };
+
+    ghost invariant = { IsKept };
+}
+
+impl Board {
+    /// The root box as one open leaf, with nothing found.
+    pub fn open(
+        alloc: Global,
+        root: PBox,
+        olds: List<i64>,
+        explorers: u32,
+    ) -> Result<Board, NoMemory>
+        requires same { length olds ≡ length root }
+        requires spans { HasNoEmpty root }
+        ensures { IfOk result (λ board. board ≡ start root olds explorers) }
+    {
+        let best = Best::new(alloc, &olds)?;
+        let mut room = Point::new(alloc, &olds)?;
+        let mut left = BTreeSet::new(alloc);
+        left.insert(key_of(alloc, &olds, &root, 0, &mut room)?)?;
+        let held = vec![in alloc; None::<usize>; explorers as usize]?;
+        let region = root.copy(alloc)?;
+        let mut links = Vec::new(alloc);
+        links.push(Link {
+            node: BoxNode {
+                region,
+                kind: Kind::Open,
+            },
+            next: None,
+        })?;
+        Ok(Board {
+            alloc,
+            root,
+            olds,
+            links,
+            held,
+            left,
+            counted: 0,
+            holding: 0,
+            best,
+            room,
+        })
+    }
+
+    /// Hands out the open box with the best key, if that key is better than the best found.
+    pub fn take(&mut self, who: u32) -> Result<Option<PBox>, NoMemory>
+        requires who { who < self.old.explorers }
+        requires free { HoldsNone self.old who }
+        ensures ok { OnOk result (self.new ≡ after self.old (Take who)) }
+        ensures handed { IfOk result (λ handed. handed ≡ best_box self.old) }
+        ensures some { IfOk result (λ handed. is_some handed ≡ list_any (is_wanted self.old.prices self.old.best) (boxes self.old)) }
+        ensures err { OnErr result (self.new ≡ self.old) }
+    {
+        let Some(at) = best_open(&self.olds, &self.best, self.links.as_slice(), &self.left) else {
+            return Ok(None);
+        };
+        let region = self.links[at].node.region.copy(self.alloc)?;
+        put_kind(&mut self.links, at, Kind::Held(who));
+        self.held[who as usize] = Some(at);
+        self.holding += 1;
+        Ok(Some(region))
+    }
+
+    /// Ends the holding of a box, which is refuted for the row by the steps. For want of memory the steps are dropped, and
+    /// the box stays held.
+    pub fn refute(&mut self, who: u32, row: RowName, steps: List<Step>) -> Result<(), NoMemory>
+        requires { Holds self.old who }
+        ensures ok { OnOk result (self.new ≡ after self.old (Refute who row steps)) }
+        ensures err { OnErr result (self.new ≡ self.old) }
+    {
+        let Some(at) = held_by(self.held.as_slice(), who) else {
+            return Ok(());
+        };
+        let region = &self.links[at].node.region;
+        let key = key_of(self.alloc, &self.olds, region, at, &mut self.room)?;
+        self.left.remove(&key);
+        put_kind(&mut self.links, at, Kind::Refuted { row, steps });
+        let_go(&mut self.held, who);
+        self.holding -= 1;
+        self.counted += 1;
+        Ok(())
+    }
+
+    /// Ends the holding of a box, which is split into the box with the parameter's values up to the cut and the box with
+    /// those above it. For want of memory it stays held.
+    pub fn cut(&mut self, who: u32, param: u32, cut: i64, row: RowName) -> Result<(), NoMemory>
+        requires { CanHappen self.old (Cut who param cut row) }
+        ensures ok { OnOk result (self.new ≡ after self.old (Cut who param cut row)) }
+        ensures err { OnErr result (self.new ≡ self.old) }
+    {
+        let Some(at) = held_by(self.held.as_slice(), who) else {
+            return Ok(());
+        };
+        let first = self.links.len();
+        let link = &self.links[at];
+        let next = link.next;
+        let parts = cut_parts(
+            self.alloc,
+            &self.olds,
+            &link.node.region,
+            at,
+            first,
+            param,
+            cut,
+            &mut self.room,
+        )?;
+        add_parts(self.alloc, &mut self.links, &mut self.left, parts, next)?;
+        put_split(&mut self.links, at, Kind::Split { param, cut, row }, first);
+        let_go(&mut self.held, who);
+        self.holding -= 1;
+        self.counted += 1;
+        Ok(())
+    }
+
+    /// Ends the holding of a box whose cheapest point repairs. The box stays open.
+    pub fn found(&mut self, who: u32)
+        requires { Holds self.old who }
+        ensures { self.new ≡ after self.old (Found who) }
+    {
+        let Some(at) = held_by(self.held.as_slice(), who) else {
+            return;
+        };
+        cheapest(&self.olds, &self.links[at].node.region, &mut self.room);
+        self.best.offer(&self.olds, &self.room);
+        put_kind(&mut self.links, at, Kind::Open);
+        let_go(&mut self.held, who);
+        self.holding -= 1;
+    }
+
+    /// Ends the holding of a box, which stays open.
+    pub fn give_back(&mut self, who: u32)
+        requires { Holds self.old who }
+        ensures { self.new ≡ after self.old (GiveBack who) }
+    {
+        let Some(held) = held_by(self.held.as_slice(), who) else {
+            return;
+        };
+        put_kind(&mut self.links, held, Kind::Open);
+        let_go(&mut self.held, who);
+        self.holding -= 1;
+    }
+
+    /// The best point found.
+    pub fn best(&self) -> Option<&Point>
+        ensures { option_copied result ≡ self.now.best }
+    {
+        self.best.get()
+    }
+
+    /// How many nodes are split or refuted.
+    pub fn nodes(&self) -> u64
+        ensures { result ≡ node_count self.now }
+    {
+        self.counted
+    }
+
+    /// Whether nobody holds a box and no open box has a key better than the best found.
+    pub fn finish(&self) -> bool
+        ensures { result ≡ has_ended self.now }
+    {
+        self.holding == 0
+            && best_open(&self.olds, &self.best, self.links.as_slice(), &self.left).is_none()
+    }
+
+    /// The tree. An open or held box whose key is not better than the best found is dear, another one open. For want of
+    /// memory the board is dropped.
+    pub fn into_tree(self) -> Result<Tree, NoMemory>
+        ensures { IfOk result (λ tree. tree.nodes ≡ tree_of self) }
+    {
+        let Board {
+            alloc,
+            olds,
+            links,
+            best,
+            mut room,
+            ..
+        } = self;
+        Ok(Tree {
+            nodes: nodes_of(alloc, &olds, &best, links, &mut room)?,
+        })
+    }
+}
