@@ -1,0 +1,45 @@
+-- The files that a command reads.
+use Rattle.std.specs.Prelude.{◌≡◌, ◌⊎◌, ℕ, ◌+◌, ◌<◌, ◌≤◌, List, [], ◌∷◌, length, map, IfSome}
+use Rattle.qf_base.specs.Desk.{DeskState, Rose}
+use Rattle.qf_shell.specs.declared.files.Input.{Input}
+
+-- a name that is read, and the most bytes that may be there
+pub record InputWord : Type 0 where
+  pub name : List ℕ
+  pub most : ℕ
+
+abbrev pub word_of : Input → InputWord
+word_of input = record { name = input.name.now; most = input.most }
+
+abbrev pub words_of : List Input → List InputWord
+words_of inputs = map word_of inputs
+
+-- these bytes were read under the name: not too many, and those that the desk tells
+pub record IsRead (desk : DeskState) (input : InputWord) (bytes : List ℕ) : Type 0 where
+  pub within : length bytes ≤ input.most
+  pub told : IfSome (desk.held input.name) (λ held. bytes ≡ held)
+
+abbrev pub AreRead : DeskState → List InputWord → List (List ℕ) → Type 0
+AreRead desk [] [] = Unit {0}
+AreRead desk [] (bytes ∷ others) = ⊥
+AreRead desk (input ∷ inputs) [] = ⊥
+AreRead desk (input ∷ inputs) (bytes ∷ others) = IsRead desk input bytes × AreRead desk inputs others
+
+-- what the desk tells of a name is more than may be there, or not more
+abbrev pub IsTooLong : DeskState → InputWord → Type 0
+IsTooLong desk input = IfSome (desk.held input.name) (λ held. input.most < length held)
+
+abbrev pub IsNotTooLong : DeskState → InputWord → Type 0
+IsNotTooLong desk input = IfSome (desk.held input.name) (λ held. length held ≤ input.most)
+
+-- the first of these files that is too long has this number; the first of them has number `first`
+abbrev pub FirstTooLong : DeskState → ℕ → List InputWord → ℕ → Type 0
+FirstTooLong desk first [] number = ⊥
+FirstTooLong desk first (input ∷ inputs) number =
+    ((number ≡ first) × IsTooLong desk input) ⊎ (IsNotTooLong desk input × FirstTooLong desk (first + 1) inputs number)
+
+-- a count of faults of an input rose
+abbrev pub AnyReadRose : List InputWord → DeskState → DeskState → Type 0
+AnyReadRose [] old new = ⊥
+AnyReadRose (input ∷ inputs) old new =
+    Rose (old.read_faults input.name) (new.read_faults input.name) ⊎ AnyReadRose inputs old new

@@ -1,0 +1,4 @@
+pub mod Inputs
+pub mod Promise
+pub mod Ends
+pub mod Completeness

@@ -1,0 +1,11 @@
+pub mod Neighbours
+pub mod Agreeing
+pub mod Numerals
+pub mod NewPieces
+pub mod SaidAgain
+pub mod Picks
+pub mod TextAgain
+pub mod SaysAgain
+pub mod Splicing
+pub mod WorkedRows
+pub mod Unchanged

@@ -1,0 +1,2 @@
+pub mod RepairedText
+pub mod Laws
