@@ -7,6 +7,7 @@ pub mod Finds
 pub mod KeySets
 pub mod Keeps
 pub mod Cuts
+pub mod Offers
 pub mod Takes
 pub mod Walks
 pub mod Trees

@@ -1,4 +1,5 @@
-ghost use Rattle.std.specs.Prelude.{◌≡◌, ◌<◌, length, IfOk, OnOk, OnErr};
+ghost use Rattle.std.specs.Prelude.{◌≡◌, ◌↔◌, ◌<◌, length, IsTrue, IfOk, OnOk, OnErr};
+ghost use Rattle.qf_base.specs.declared.names.RowName.{RowName};
 ghost use Rattle.std.specs.Option.{is_some, option_copied};
 ghost use Rattle.std.specs.List.{list_any};
 ghost use Rattle.qf_point.specs.Points.{HasNoEmpty};
@@ -6,7 +7,7 @@ ghost use Rattle.qf_board.specs.Boards.{start, after, Take, Cut, GiveBack, Refut
 
 use crate::keys::{Key, best_open, key_of};
 use crate::nodes::{BoxNode, Kind, Link, held_by, let_go, put_kind, put_split};
-use crate::parts::{add_parts, cut_parts};
+use crate::parts::{add_parts, can_cut, cut_parts};
 use crate::tree::nodes_of;
 use qf_base::{List, NoMemory, PBox, Point, RowName};
 use qf_lin::Step;
@@ -81,6 +82,31 @@ impl Board {
             best,
             room,
         })
+    }
+
+    /// Whether this explorer is one of the board's and holds no box: then it may take one.
+    pub fn may_take(&self, who: u32) -> bool
+        ensures { IsTrue result ↔ ((who < self.now.explorers) × HoldsNone self.now who) }
+    {
+        (who as usize) < self.held.len() && held_by(self.held.as_slice(), who).is_none()
+    }
+
+    /// Whether this explorer holds a box: then it may refute it, find its cheapest point, or give it back.
+    pub fn holds(&self, who: u32) -> bool
+        ensures { IsTrue result ↔ Holds self.now who }
+    {
+        held_by(self.held.as_slice(), who).is_some()
+    }
+
+    /// Whether this explorer holds a box that may be cut so: at a parameter, from 1, that has values up to the cut and
+    /// values above it there.
+    pub fn may_cut(&self, who: u32, param: u32, cut: i64) -> bool
+        ensures { (row : RowName) → (IsTrue result ↔ CanHappen self.now (Cut who param cut row)) }
+    {
+        match held_by(self.held.as_slice(), who) {
+            Some(at) => can_cut(&self.links[at].node.region, param, cut),
+            None => false,
+        }
     }
 
     /// Hands out the open box with the best key, if that key is better than the best found.

@@ -1,4 +1,4 @@
-ghost use Rattle.std.specs.Prelude.{◌≡◌, ◌<◌, ◌+◌, ◌-◌, ◌^◌, ◌++◌, ◌∷◌, [], Some, false, length, IfOk, OnOk, OnErr};
+ghost use Rattle.std.specs.Prelude.{◌≡◌, ◌↔◌, ◌<◌, ◌+◌, ◌-◌, ◌^◌, ◌++◌, ◌∷◌, [], Some, false, length, IsTrue, IfOk, OnOk, OnErr};
 ghost use Rattle.std.specs.BTreeSet.{insert_key, contains, contains_by};
 ghost use Rattle.std.specs.BTreeMap.{is_at};
 ghost use Rattle.std.specs.Set.{remove_key};
@@ -57,6 +57,17 @@ pub fn cut_parts(
         upper,
         high,
     })
+}
+
+/// Whether a box may be cut so: the parameter, from 1, has values up to the cut and values above it there.
+pub fn can_cut(region: &PBox, param: u32, cut: i64) -> bool
+    ensures { IsTrue result ↔ ((0 < param) × CanCut region.now (param - 1) cut) }
+{
+    if param == 0 || param > region.len() {
+        return false;
+    }
+    let (lo, hi) = region.get(param - 1);
+    lo <= cut && cut < hi
 }
 
 // A box as an open leaf, and the number of the node that follows it.
