@@ -118,6 +118,7 @@ with_texts_of plan texts =
 sound-with : (plan : Plan) (text : List ℕ) → IsSound plan → length plan.texts + 1 < 2 ^ 32 → IsSound (with_texts_of plan (with_text plan.texts text))
 sound-with plan text sound room = record {
   typed = more-statements (map (λ (c : Column'). c.kind) plan.columns) (length plan.olds) (length plan.texts) (length (with_text plan.texts text)) (length-not-less plan.texts text) plan.statements sound.typed;
+  lists = sound.lists;
   inserted = sound.inserted;
   few_columns = sound.few_columns;
   few_rows = sound.few_rows;

@@ -5,7 +5,7 @@ use Rattle.std.specs.declared.option.Option.TheVariants.{Some, None}
 use Rattle.std.specs.List.{flat_map, list_any, AllByRecursion, range_with_len}
 use Rattle.std.proofs.lemmas.Bool.Decides.{nat_tests}
 use Rattle.std.proofs.lemmas.Option.{none-some}
-use Rattle.std.proofs.lemmas.List.{append-nil}
+use Rattle.std.proofs.lemmas.List.{append-nil, length-map}
 use Rattle.std.proofs.lemmas.List.FromFn.{length-range_with_len}
 use Rattle.std.proofs.lemmas.Grind.{flat_map-append}
 use Rattle.qf_ir.specs.declared.ast.Expr.{Expr}
@@ -20,7 +20,7 @@ use Rattle.qf_ir.specs.declared.fault.IrFault.TheVariants as fault
 use Rattle.qf_ir.specs.Value.{Cells}
 use Rattle.qf_ir.specs.Fits.{Small}
 use Rattle.qf_ir.specs.Replay.{inserted_count}
-use Rattle.qf_ir.specs.Typed.{IsItem, StatementsTyped}
+use Rattle.qf_ir.specs.Typed.{IsItem, StatementsTyped, ListsAll}
 use Rattle.qf_ir.specs.Tables.{IsSoundTable, CellsAre, kinds_of, names_of}
 use Rattle.qf_ir.specs.Texts.{code_in}
 use Rattle.qf_ir.specs.Parts.{terms_of, params_in, tests_of, comparisons_of, conds_of, where_of, items_of, exprs_of, statement_params, params_of, all_exprs}
@@ -31,7 +31,7 @@ use Rattle.qf_ir.specs.Steps.{Passes}
 use Rattle.qf_ir.specs.Plan.{Plan, IsSound, Belongs}
 use Rattle.qf_ir.proofs.Numbering.{each-append, each-join, made-same, coded-same, in-order-same}
 use Rattle.qf_ir.proofs.Accepted.{Accepted, accepted, none-or}
-use Rattle.qf_ir.proofs.Typing.{InRange, Good, statement-typed}
+use Rattle.qf_ir.proofs.Typing.{InRange, Good, statement-typed, lists-all}
 use Rattle.qf_ir.proofs.Joining.{codes-within, length-with-all, distinct-with-all, prefix-with-all}
 
 -- ---- each statement is accepted, and the counts stay within the limits
@@ -174,6 +174,7 @@ module _ (table : Table) (names texts : List (List ℕ)) (statements : List Stat
       let parts = good kinds params joint (all_exprs ss) is_made.exprs is_coded inside_exprs in
       record {
         typed = typed kinds params joint ss all.each (each-flat (Good kinds params joint) exprs_of ss parts) (each-flat IsItem items_of ss is_made.items);
+        lists = subst (λ (w : ℕ). AllByRecursion (ListsAll w) ss) (length-map table.columns (λ (c : Column). c.kind)) (each-imply (Accepted kinds) (ListsAll (length kinds)) (lists-all kinds) ss all.each);
         inserted = refl;
         few_columns = sound.few_columns;
         few_rows = all.rows;

@@ -26,7 +26,7 @@ use Rattle.qf_ir.specs.declared.ast.Statement.TheVariants.{Update, Delete, Inser
 use Rattle.qf_ir.specs.declared.table.ColumnKind.{ColumnKind}
 use Rattle.qf_ir.specs.declared.table.ColumnKind.TheVariants as kind
 use Rattle.qf_ir.specs.Replay.{place_from, place_of}
-use Rattle.qf_ir.specs.Typed.{Scope, IsNumber, IsTextColumn, AreNumbers, IsText, IsInt, HasKind, AllOfKind, MeetsTexts, IsTyped, AreTyped, WhereTyped, Fits, SetsTyped, IsItem, ItemFits, ColumnsFilled, TuplesTyped, StatementTyped}
+use Rattle.qf_ir.specs.Typed.{Scope, IsNumber, IsTextColumn, AreNumbers, IsText, IsInt, HasKind, AllOfKind, MeetsTexts, IsTyped, AreTyped, WhereTyped, Fits, SetsTyped, IsItem, ItemFits, ColumnsFilled, TuplesTyped, StatementTyped, ListsAll}
 use Rattle.qf_ir.specs.Parts.{param_of, params_in, tests_of, tests_of_parts, exprs_in, where_of, items_of, exprs_of}
 use Rattle.qf_ir.specs.Made.{IsMade, IsCoded}
 use Rattle.qf_ir.specs.Checked.{is_int_kind, is_text_kind, is_number, is_text_column, is_int, is_text, goes_into, is_equality, test_agrees, set_agrees, listed, tuple_agrees, is_among, is_column, repeats}
@@ -136,6 +136,23 @@ listed-length w (c ∷ cs) known once all =
     let few = length-le_from_distinct_below (c ∷ cs) w (distinct-columns (c ∷ cs) once) (all-below w (c ∷ cs) known) in
     let many = covers w (c ∷ cs) (λ d low. among-range 0 w (is_among (c ∷ cs)) all d (omega arith) (omega arith)) in
     omega (arith, few, many)
+
+each-below : (w : ℕ) (cs : List ℕ) → list_all (is_column w) cs ≡ true → AllByRecursion (λ c. c < w) cs
+each-below w [] known = tt
+each-below w (c ∷ cs) known =
+    let both = and-both (nat_lt c w) (list_all (is_column w) cs) known in
+    let low : nat_lt c w ≡ true = both.0 in
+    (grind (arith, nat_tests), each-below w cs both.1)
+
+pub lists-all : (kinds : List ColumnKind) (s : Statement) → Accepted kinds s → ListsAll (length kinds) s
+lists-all kinds (Update sets where_) ok = tt
+lists-all kinds (Delete where_) ok = tt
+lists-all kinds (Insert [] tuples) ok = tt
+lists-all kinds (Insert (c ∷ cs) tuples) ok =
+    let w = length kinds in
+    let names = and-both (list_all (is_column w) (c ∷ cs)) _ ok.knows in
+    let covered = none-or (not (list_all (is_among (listed w (c ∷ cs))) (range_with_len 0 w))) (not (list_all (λ tuple. length tuple == length (listed w (c ∷ cs))) tuples)) ok.full in
+    (listed-length w (c ∷ cs) names.0 ok.once (not-false _ covered.0), each-below w (c ∷ cs) names.0)
 
 module _ (kinds : List ColumnKind) (params texts : ℕ) where
   abbrev scope : Scope

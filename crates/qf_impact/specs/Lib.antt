@@ -1,0 +1,4 @@
+pub mod Atoms
+pub mod Steps
+pub mod Sets
+pub mod Reaches
