@@ -1,37 +1,49 @@
--- The text so far and what stands behind it, one place further.
-use Rattle.std.proofs.Common.{◌≡◌, ℕ, ◌+◌, ◌-◌, ◌<◌, ◌≤◌, List, [], ◌∷◌, ◌++◌, length, get_or, take, drop, sym, ap, subst, ◌∙◌, arith, add-one, append_assoc, Some, slice_get}
-use Rattle.std.specs.Prelude.{ℤ, pos}
-use Rattle.std.proofs.Math.Seq.{drop-cons}
-use Rattle.std.proofs.lemmas.Option.{get_or_from_slice_get}
-use Rattle.qf_app.specs.declared.place.ParamPlace.{ParamPlace}
-use Rattle.qf_app.specs.InOrder.{InOrder}
-use Rattle.qf_app.specs.RepairedText.{literal, repaired_from}
+-- A least repair has one value within 2^50 for each parameter of the log.
+use Rattle.std.proofs.Common.{◌≡◌, suc, ◌^◌, ◌≤◌, ◌≤ℤ◌, ℤ, pos, negsuc, true, List, [], ◌∷◌, length, map, refl, sym, ◌∙◌, ap, subst, arith}
+use Rattle.std.specs.List.{AllByRecursion}
+use Rattle.std.proofs.lemmas.Bool.Decides.{nat_tests}
+use Rattle.std.proofs.lemmas.Int.{ints}
+use Rattle.qf_base.proofs.BoxLaws.{length-In}
+use Rattle.qf_base.specs.Values.{Bounds, In}
+use Rattle.qf_goal.specs.Case.{Case, IsLeastRepair}
+use Rattle.qf_goal.specs.SoundCase.{IsSoundCase}
+use Rattle.qf_ir.specs.Fits.{Small}
+use Rattle.qf_log.specs.Reading.{Reading, olds_of}
+use Rattle.qf_log.specs.declared.places.ParamPlace.{ParamPlace}
+use Rattle.qf_point.specs.Domains.{is_small, AreSmall, HasSmallEnds}
+use Rattle.qf_splice.specs.Laws.{IsPointOf}
 
-pub drop_one : {A : Type 0} (xs : List A) (n : ℕ) (d : A) → n < length xs → drop n xs ≡ get_or xs n d ∷ drop (n + 1) xs
-drop_one xs n d lt = rw add-one (drop-cons xs n d lt)
+small_to : (z : ℤ) → Small z → is_small z ≡ true
+small_to (pos n) small = let le : n ≤ 2 ^ 50 = omega (arith, ints) in grind (arith, nat_tests)
+small_to (negsuc n) small = let le : suc n ≤ 2 ^ 50 = omega (arith, ints) in grind (arith, nat_tests)
 
-pub order_end : (at : ℕ) (places : List ParamPlace) (end : ℕ) → InOrder at places end → at ≤ end
-order_end at [] end h = h
-order_end at (place ∷ places) end h = omega (arith, h.0, h.1, order_end place.end places end h.2)
+small_from : (z : ℤ) → is_small z ≡ true → Small z
+small_from (pos n) small = let le : n ≤ 2 ^ 50 = grind (arith, nat_tests) in record { low = omega (arith, ints); high = omega (arith, ints) }
+small_from (negsuc n) small = let le : suc n ≤ 2 ^ 50 = grind (arith, nat_tests) in record { low = omega (arith, ints); high = omega (arith, ints) }
 
--- a place and those behind it
-pub record Here (at : ℕ) (place : ParamPlace) (rest : List ParamPlace) (end : ℕ) : Type 0 where
-  pub start : at ≤ place.start
-  pub literal : place.start ≤ place.end
-  pub within : place.end ≤ end
-  pub rest_order : InOrder place.end rest end
+are_small : (olds : List ℤ) → AllByRecursion Small olds → AreSmall olds
+are_small [] h = tt
+are_small (old ∷ olds) h = (small_to old h.0, are_small olds h.1)
 
-pub order_here : (at n : ℕ) (places : List ParamPlace) (end : ℕ) (d : ParamPlace) → n < length places → InOrder at (drop n places) end → Here at (get_or places n d) (drop (n + 1) places) end
-order_here at n places end d lt h =
-    let o : InOrder at (get_or places n d ∷ drop (n + 1) places) end = subst (λ ps. InOrder at ps end) (drop_one places n d lt) h in
-    record { start = o.0; literal = o.1; within = order_end (get_or places n d).end (drop (n + 1) places) end o.2; rest_order = o.2 }
+small_within : (lo hi z : ℤ) → Small lo → Small hi → lo ≤ℤ z → z ≤ℤ hi → Small z
+small_within lo hi z low high below above = record { low = omega (arith, ints); high = omega (arith, ints) }
 
-pub text_more : (bytes text : List ℕ) (at : ℕ) (rest places : List ParamPlace) (left values : List ℤ) (place : ParamPlace) (value : ℤ) (all : List ℕ) → rest ≡ place ∷ places → left ≡ value ∷ values
-    → text ++ repaired_from at bytes rest left ≡ all → ((text ++ take (place.start - at) (drop at bytes)) ++ literal bytes place value) ++ repaired_from place.end bytes places values ≡ all
-text_more bytes text at rest places left values place value all e f h =
-    append_assoc (text ++ take (place.start - at) (drop at bytes)) (literal bytes place value) (repaired_from place.end bytes places values)
-    ∙ append_assoc text (take (place.start - at) (drop at bytes)) (literal bytes place value ++ repaired_from place.end bytes places values)
-    ∙ ap (λ t. text ++ t) (sym (ap (λ ps. repaired_from at bytes ps left) e ∙ ap (repaired_from at bytes (place ∷ places)) f)) ∙ h
+point_small : (region : Bounds) (point : List ℤ) → HasSmallEnds region → In region point → AllByRecursion Small point
+point_small [] [] ends inside = tt
+point_small [] (v ∷ point) ends inside = absurd inside
+point_small (r ∷ region) [] ends inside = absurd inside
+point_small (r ∷ region) (v ∷ point) ends inside =
+    (small_within r.0 r.1 v (small_from r.0 ends.0.0) (small_from r.1 ends.0.1) inside.0 inside.1, point_small region point ends.1 inside.2)
 
-pub value_here : (values : List ℤ) (n : ℕ) (value : ℤ) → n < length values → slice_get values n ≡ Some value → drop n values ≡ value ∷ drop (n + 1) values
-value_here values n value lt e = drop_one values n (pos 0) lt ∙ ap (λ v. v ∷ drop (n + 1) values) (get_or_from_slice_get values n value (pos 0) e)
+as_many : (places : List ParamPlace) → length (map (λ (p : ParamPlace). p.old) places) ≡ length places
+as_many [] = refl
+as_many (p ∷ places) = ap suc (as_many places)
+
+pub is_point_of : (log : Reading) (case : Case) (point : List ℤ) → case.plan.olds ≡ olds_of log → IsSoundCase case
+    → (AreSmall case.domains.olds → HasSmallEnds case.domains.region) → IsLeastRepair case point → IsPointOf log point
+is_point_of log case point olds sound ends least = record {
+  values =
+      sym (length-In case.domains.region point least.inside)
+      ∙ (length-In case.domains.region case.plan.olds sound.inside ∙ (ap length olds ∙ as_many log.parameters));
+  within = point_small case.domains.region point (ends (subst AreSmall (sym sound.olds) (are_small case.plan.olds sound.plan.small_olds))) least.inside;
+}

@@ -1,77 +1,59 @@
-ghost use Rattle.std.specs.Prelude.{◌≡◌, IfOk, IfSome, length};
-ghost use Rattle.qf_app.specs.Answers.{IsAnswer};
-ghost use Rattle.qf_app.specs.InOrder.{InOrder};
-ghost use Rattle.qf_app.specs.Inputs.{AreShort};
-ghost use Rattle.qf_app.specs.Instances.{HasForm, IsBest, IsAnswerOver};
-ghost use Rattle.qf_app.specs.LogForm.{places_of};
+ghost use Rattle.std.specs.Prelude.{◌≡◌, ◌≤◌, ◌^◌, length, take, IfOk};
+ghost use Rattle.std.specs.List.{AllByRecursion};
+ghost use Rattle.qf_base.specs.Refusal.{refusal_bytes};
+ghost use Rattle.qf_base.specs.declared.status.Status.TheVariants as status;
+ghost use Rattle.qf_shell.specs.Promise.{IsAnswered};
+ghost use Rattle.qf_app.specs.Answers.{answers_of};
+ghost use Rattle.qf_app.specs.Meaning.{meaning_of};
+ghost use Rattle.qf_app.specs.Request.{input_words};
 
-use crate::files::Files;
-use crate::goals::goals;
-use crate::inputs::{Instance, read_inputs};
-use crate::splice::repaired;
-use crate::trial::least_repair;
-use qf_base::{List, NoMemory, Point, Status, refusal_line};
+use crate::checking::checked;
+use crate::command::Command;
+use crate::diagnosis::diagnosis;
+use crate::replaying::{listed, replayed};
+use qf_base::{List, NoMemory, Refusal, Status, refusal_line};
+use qf_shell::Answer;
 use std::alloc::Global;
 
-/// What is to be said of the files, and the status with which it is said.
-#[derive(Debug, Drop)]
-pub(crate) struct Answer {
-    pub(crate) status: Status,
-    pub(crate) line: List<u8>,
+/// The answer that a refusal is.
+pub(crate) fn refusal_answer(alloc: Global, refusal: &Refusal) -> Result<Answer, NoMemory>
+    ensures status { IfOk result (λ a. a.status ≡ status.Refused) }
+    ensures line { IfOk result (λ a. a.line ≡ refusal_bytes refusal.now) }
+{
+    Ok(Answer {
+        status: Status::Refused,
+        line: refusal_line(alloc, refusal)?,
+    })
 }
 
-// The best point with which every row meets its goal, if there is one.
-fn best_point(alloc: Global, instance: &Instance) -> Result<Option<Point>, NoMemory>
-    requires { HasForm instance.now }
-    ensures best { IfOk result (IsBest instance.now) }
-    ensures two { IfOk result (λ o. IfSome o (λ point. length point ≡ 2)) }
+/// The answer of a command to its files, in the order in which they are read. A fifth, the certificate, may be long.
+pub(crate) fn answer_to(
+    alloc: Global,
+    command: &Command<'_>,
+    files: &[List<u8>],
+) -> Result<Answer, NoMemory>
+    requires count { length files.now ≡ length (input_words (meaning_of command.now)) }
+    requires short { AllByRecursion (λ bytes. length bytes ≤ 2 ^ 26) (take 4 files.now) }
+    ensures answer { IfOk result (λ a. answers_of (meaning_of command.now) files.now a.status a.line) }
 {
-    let log = &instance.log;
-    let olds = List::from_slice(alloc, &[log.value.old, log.bound.old])?;
-    let goals = goals(alloc, &instance.table, log, instance.asks.as_slice())?;
-    least_repair(
-        alloc,
-        &instance.table,
-        log,
-        &goals,
-        &olds,
-        instance.domains.region(),
-    )
-}
-
-// The text of the log with the constants of the best point, or `none`.
-fn repair_of(alloc: Global, log: &[u8], instance: &Instance) -> Result<Answer, NoMemory>
-    requires form { HasForm instance.now }
-    requires order { InOrder 0 (places_of instance.now.log) (length log.now) }
-    ensures { IfOk result (λ a. IsAnswerOver log.now instance.now a.status a.line) }
-{
-    match best_point(alloc, instance)? {
-        Some(point) => Ok(Answer {
-            status: Status::Done,
-            line: repaired(
-                alloc,
-                log,
-                &[instance.log.value, instance.log.bound],
-                &point,
-            )?,
-        }),
-        None => Ok(Answer {
-            status: Status::Nothing,
-            line: List::from_slice(alloc, b"none\n")?,
-        }),
-    }
-}
-
-/// The answer to the files: the repaired text, `none`, or the line of the first refusal.
-pub(crate) fn answer_to(alloc: Global, files: &Files) -> Result<Answer, NoMemory>
-    requires { AreShort files.now }
-    ensures { IfOk result (λ a. IsAnswer files.now a.status a.line) }
-{
-    match read_inputs(alloc, files)? {
-        Ok(instance) => repair_of(alloc, files.log.as_slice(), &instance),
-        Err(refusal) => Ok(Answer {
-            status: Status::Refused,
-            line: refusal_line(alloc, &refusal)?,
-        }),
+    match (command, files) {
+        (Command::Diagnose(_), [initial, log, complaints, domains]) => diagnosis(
+            alloc,
+            initial.as_slice(),
+            log.as_slice(),
+            complaints.as_slice(),
+            domains.as_slice(),
+        ),
+        (Command::Check(_), [initial, log, complaints, domains, certificate]) => checked(
+            alloc,
+            initial.as_slice(),
+            log.as_slice(),
+            complaints.as_slice(),
+            domains.as_slice(),
+            certificate.as_slice(),
+        ),
+        (Command::Replay(_), [initial, log]) => replayed(alloc, initial.as_slice(), log.as_slice()),
+        (Command::Params(_), [initial, log]) => listed(alloc, initial.as_slice(), log.as_slice()),
+        _ => unreachable!(),
     }
 }

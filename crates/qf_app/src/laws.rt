@@ -1,18 +1,34 @@
-ghost use Rattle.qf_app.specs.Completeness.{AcceptedFilesAreAnswered, RefusedFilesAreRefused, LongFilesAreRefused};
+ghost use Rattle.qf_app.specs.Laws.{EachCommandAnswers, EachCommandRefusesLongFiles, DiagnosesFit, CertificatesFit, TablesFit, ParametersFit};
 
-/// Where a desk tells four files that are accepted and no fault rose, the promise of `diagnose` leaves one status and one
-/// text, but for want of memory: the least repair with status 0 where a point of the domains repairs, and `none` with
-/// status 1 where none does. The law holds of the definitions, and the call does nothing.
-pub fn accepted_files_are_answered()
-    ensures { AcceptedFilesAreAnswered }
+/// Where a desk tells the files of a command, none too long, and no fault rose, an answer to these files was said, but for
+/// want of memory. The law holds of the definitions, and the call does nothing.
+pub fn each_command_answers()
+    ensures { EachCommandAnswers }
 {}
 
-/// .. and files that are refused have their refusal's line with status 3.
-pub fn refused_files_are_refused()
-    ensures { RefusedFilesAreRefused }
+/// .. and where a file is too long, the refusal of the first such file was said.
+pub fn each_command_refuses_long_files()
+    ensures { EachCommandRefusesLongFiles }
 {}
 
-/// .. as has the first file that is too long.
-pub fn long_files_are_refused()
-    ensures { LongFilesAreRefused }
+/// Four files are either accepted, and `diagnose` answers with the least repair or that there is none, or refused, and it
+/// says their refusal.
+pub fn diagnoses_fit()
+    ensures { DiagnosesFit }
+{}
+
+/// Where four files are accepted, `check` accepts a fifth exactly where it is the text of a certificate that is valid for
+/// them, and rejects it exactly where it is not. Where they are refused, it says their refusal.
+pub fn certificates_fit()
+    ensures { CertificatesFit }
+{}
+
+/// Two files are either accepted, and `replay` answers with the final table, or refused, and it says their refusal.
+pub fn tables_fit()
+    ensures { TablesFit }
+{}
+
+/// .. and `params` with the parameters.
+pub fn parameters_fit()
+    ensures { ParametersFit }
 {}

@@ -2,26 +2,17 @@
 #![tactic(auto)]
 
 mod answer;
+mod checking;
 mod command;
-mod complaint_file;
-mod diagnose;
-mod domain_file;
-mod files;
-mod goals;
-mod initial;
-mod inputs;
-mod judge;
+mod diagnosis;
 mod laws;
-mod log_file;
-mod place;
-mod splice;
-mod threshold;
+mod parameters;
+mod replaying;
 mod top;
-mod trial;
+mod work;
 
-pub use files::Files;
-pub use laws::{accepted_files_are_answered, long_files_are_refused, refused_files_are_refused};
-pub use log_file::logs_are_spelled;
-pub use place::ParamPlace;
-pub use threshold::Threshold;
+pub use laws::{
+    certificates_fit, diagnoses_fit, each_command_answers, each_command_refuses_long_files,
+    parameters_fit, tables_fit,
+};
 pub use top::run;

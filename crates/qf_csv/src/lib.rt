@@ -6,5 +6,5 @@ mod reading;
 mod writing;
 
 pub use numerals::{count, is_plain, numeral_within};
-pub use reading::{field, read_records, without_marks};
+pub use reading::{field, read_first_records, read_records, without_marks};
 pub use writing::RecordWriter;

@@ -9,10 +9,11 @@ use Rattle.std.proofs.lemmas.List.{length-map, length-take, drop_more}
 use Rattle.qf_base.specs.declared.names.RowName.{RowName}
 use Rattle.qf_ir.specs.Plan.{Plan, RowExists}
 use Rattle.qf_ir.specs.Replay.{same_row}
+use Rattle.qf_forms.specs.Stated.{stated_by}
 use Rattle.qf_forms.specs.declared.complaint.Complaint.{Complaint}
 use Rattle.qf_goal.specs.declared.fault.GoalFault.{GoalFault}
 use Rattle.qf_goal.specs.declared.fault.GoalFault.TheVariants.{UnknownRow, RepeatedRow}
-use Rattle.qf_goal.specs.Asked.{is_row, row_exists, stated_in, stated_fault, fault_of, or_else, first_fault}
+use Rattle.qf_goal.specs.Asked.{is_row, row_exists, stated_fault, fault_of, or_else, first_fault}
 use Rattle.qf_goal.specs.RowPlaces.{plan_rows, row_place, mark_of, marks_of, rows_in}
 use Rattle.qf_goal.proofs.ListLemmas.{take-more}
 use Rattle.qf_goal.proofs.RowLemmas.{length-rows, same_row-refl, same_row_is, row-at-place, place-of-row}
@@ -112,7 +113,7 @@ pub repeated_row : (plan : Plan) (earlier : List RowName) (number : ℕ) (compla
 repeated_row plan earlier number complaint there before = rw (there, before) refl
 
 pub other_fault : (plan : Plan) (earlier : List RowName) (number : ℕ) (complaint : Complaint) (fault : Option GoalFault) → row_exists plan complaint.row ≡ true
-    → list_any (is_row complaint.row) earlier ≡ false → fault ≡ stated_fault plan.columns number (stated_in complaint.wish) → fault ≡ fault_of plan earlier number complaint
+    → list_any (is_row complaint.row) earlier ≡ false → fault ≡ stated_fault plan.columns number (stated_by complaint.wish) → fault ≡ fault_of plan earlier number complaint
 other_fault plan earlier number complaint fault there fresh is = rw (there, fresh) is
 
 -- a complaint without a fault is about a row of its own
@@ -123,7 +124,7 @@ fresh_row plan earlier number complaint none = by_test (list_any (is_row complai
     by_test false is = refl
     by_test true is =
         absurd (elim (row_exists plan complaint.row) as (λ b. (if not b then Some (UnknownRow number) else if true then Some (RepeatedRow number)
-        else stated_fault plan.columns number (stated_in complaint.wish)) ≡ None → ⊥) [ true ↦ λ e. cc | false ↦ λ e. cc ] (rw is at none))
+        else stated_fault plan.columns number (stated_by complaint.wish)) ≡ None → ⊥) [ true ↦ λ e. cc | false ↦ λ e. cc ] (rw is at none))
 
 -- one more complaint
 pub marks_step : (plan : Plan) (complaints : List Complaint) (whole : Option GoalFault) (i place : ℕ) (complaint : Complaint) (marks next : List (Option ℕ)) → slice_get complaints i ≡ Some complaint

@@ -23,6 +23,7 @@ use Rattle.qf_ir.specs.Replay.{same_row}
 use Rattle.qf_ir.specs.Tables.{CellIs, IsSoundTable}
 use Rattle.qf_ir.specs.Texts.{code_in, with_texts}
 use Rattle.qf_point.specs.Domains.{DomainBox}
+use Rattle.qf_forms.specs.Stated.{stated_by, StatesNamesOnce, StatesSmallNumbers, IsSmallValue}
 use Rattle.qf_forms.specs.declared.complaint.WishCell.{WishCell}
 use Rattle.qf_forms.specs.declared.complaint.WishCell.TheVariants.{Int, Text}
 use Rattle.qf_forms.specs.declared.complaint.Wish.{Wish}
@@ -32,8 +33,8 @@ use Rattle.qf_forms.specs.Complaints.{Stated, is_named, are_distinct}
 use Rattle.qf_goal.specs.declared.fault.GoalFault.{GoalFault}
 use Rattle.qf_goal.specs.declared.fault.GoalFault.TheVariants.{TooManyComplaints}
 use Rattle.qf_goal.specs.Case.{Case}
-use Rattle.qf_goal.specs.Asked.{stated_in, row_exists, is_row, is_called, is_unknown, is_other_kind, is_mistyped, is_mistyped_in, fault_of, or_else, first_fault, text_of, text_in, stated_texts, cell_of, listed_cell, ask_of, asks_of, with_joined, asked_case, unless_fault, problem_of}
-use Rattle.qf_goal.specs.SoundCase.{StatesNamesOnce, StatesSmallNumbers, IsSmallValue, IsListed, IsAskOf, AreAsksOf, IsSoundCase}
+use Rattle.qf_goal.specs.Asked.{row_exists, is_row, is_called, is_unknown, is_other_kind, is_mistyped, is_mistyped_in, fault_of, or_else, first_fault, text_of, text_in, stated_texts, cell_of, listed_cell, ask_of, asks_of, with_joined, asked_case, unless_fault, problem_of}
+use Rattle.qf_goal.specs.SoundCase.{IsListed, IsAskOf, AreAsksOf, IsSoundCase}
 use Rattle.qf_goal.specs.RowPlaces.{rows_in, asked_rows, marks_of}
 use Rattle.qf_goal.proofs.ListLemmas.{each-append}
 use Rattle.qf_goal.proofs.RowLemmas.{row_exists_is}
@@ -70,15 +71,15 @@ or_else-none (Some fault) rest none = absurd (cc)
 record IsFaultless (plan : Plan) (earlier : List RowName) (complaint : Complaint) : Type 0 where
   exists : row_exists plan complaint.row ≡ true
   fresh : list_any (is_row complaint.row) earlier ≡ false
-  known : list_any (is_unknown plan.columns) (stated_in complaint.wish) ≡ false
-  typed : list_any (is_mistyped plan.columns) (stated_in complaint.wish) ≡ false
+  known : list_any (is_unknown plan.columns) (stated_by complaint.wish) ≡ false
+  typed : list_any (is_mistyped plan.columns) (stated_by complaint.wish) ≡ false
 
 faultless : (plan : Plan) (earlier : List RowName) (number : ℕ) (complaint : Complaint) → fault_of plan earlier number complaint ≡ None → IsFaultless plan earlier complaint
 faultless plan earlier number complaint none =
     let row = if-none (not (row_exists plan complaint.row)) _ _ none in
     let repeated = if-none (list_any (is_row complaint.row) earlier) _ _ row.1 in
-    let unknown = if-none (list_any (is_unknown plan.columns) (stated_in complaint.wish)) _ _ repeated.1 in
-    let mistyped = if-none (list_any (is_mistyped plan.columns) (stated_in complaint.wish)) _ _ unknown.1 in
+    let unknown = if-none (list_any (is_unknown plan.columns) (stated_by complaint.wish)) _ _ repeated.1 in
+    let mistyped = if-none (list_any (is_mistyped plan.columns) (stated_by complaint.wish)) _ _ unknown.1 in
     record { exists = not-false (row_exists plan complaint.row) row.0; fresh = repeated.0; known = unknown.0; typed = mistyped.0 }
 
 -- ---- rows
@@ -154,8 +155,8 @@ all_listed plan (s ∷ stated) known typed small held =
     let h = each-append (λ text. code_in plan.texts text < length plan.texts) (text_in s) (flat_map text_in stated) held in
     (listed plan s k.0 t.0 small.0 h.0, all_listed plan stated k.1 t.1 small.1 h.1)
 
-ask_is : (plan : Plan) (wish : Wish) → list_any (is_unknown plan.columns) (stated_in wish) ≡ false → list_any (is_mistyped plan.columns) (stated_in wish) ≡ false
-    → AllByRecursion (λ (s : Stated). IsSmallValue s.1) (stated_in wish) → AllByRecursion (λ text. code_in plan.texts text < length plan.texts) (flat_map text_in (stated_in wish))
+ask_is : (plan : Plan) (wish : Wish) → list_any (is_unknown plan.columns) (stated_by wish) ≡ false → list_any (is_mistyped plan.columns) (stated_by wish) ≡ false
+    → AllByRecursion (λ (s : Stated). IsSmallValue s.1) (stated_by wish) → AllByRecursion (λ text. code_in plan.texts text < length plan.texts) (flat_map text_in (stated_by wish))
     → IsAskOf plan (ask_of plan.columns plan.texts wish)
 ask_is plan Absent known typed small held = tt
 ask_is plan (Present stated) known typed small held = all_listed plan stated known typed small held
@@ -167,8 +168,8 @@ cells plan joined earlier number [] same none small held = tt
 cells plan joined earlier number (c ∷ complaints) same none small held =
     let both = or_else-none _ _ none in
     let sound = faultless plan earlier number c both.0 in
-    let h = each-append (λ text. code_in joined.texts text < length joined.texts) (flat_map text_in (stated_in c.wish)) (stated_texts complaints) held in (
-      ask_is joined c.wish (ap (λ columns. list_any (is_unknown columns) (stated_in c.wish)) same ∙ sound.known) (ap (λ columns. list_any (is_mistyped columns) (stated_in c.wish)) same ∙ sound.typed) small.0 h.0,
+    let h = each-append (λ text. code_in joined.texts text < length joined.texts) (flat_map text_in (stated_by c.wish)) (stated_texts complaints) held in (
+      ask_is joined c.wish (ap (λ columns. list_any (is_unknown columns) (stated_by c.wish)) same ∙ sound.known) (ap (λ columns. list_any (is_mistyped columns) (stated_by c.wish)) same ∙ sound.typed) small.0 h.0,
       cells plan joined (earlier ++ c.row ∷ []) (number + 1) complaints same both.1 small.1 h.1,
     )
 
@@ -241,11 +242,11 @@ few_stated columns stated distinct known =
     )
 
 pub few_cells : (plan : Plan) (earlier : List RowName) (number : ℕ) (complaints : List Complaint) → length plan.columns ≤ 32 → first_fault plan earlier number complaints ≡ None
-    → AllByRecursion StatesNamesOnce complaints → AllByRecursion (λ (c : Complaint). length (stated_in c.wish) ≤ 32) complaints
+    → AllByRecursion StatesNamesOnce complaints → AllByRecursion (λ (c : Complaint). length (stated_by c.wish) ≤ 32) complaints
 few_cells plan earlier number [] few none names = tt
 few_cells plan earlier number (c ∷ complaints) few none names =
     let both = or_else-none _ _ none in
-    (omega (arith, few_stated plan.columns (stated_in c.wish) names.0 (faultless plan earlier number c both.0).known), few_cells plan (earlier ++ c.row ∷ []) (number + 1) complaints few both.1 names.1)
+    (omega (arith, few_stated plan.columns (stated_by c.wish) names.0 (faultless plan earlier number c both.0).known), few_cells plan (earlier ++ c.row ∷ []) (number + 1) complaints few both.1 names.1)
 
 -- ---- the problem
 

@@ -9,11 +9,12 @@ use Rattle.qf_ir.specs.declared.cell.Cell.TheVariants as cell
 use Rattle.qf_ir.specs.declared.table.Column.{Column}
 use Rattle.qf_ir.specs.Plan.{Plan}
 use Rattle.qf_ir.specs.Texts.{is_text, code_in, with_text, with_texts}
+use Rattle.qf_forms.specs.Stated.{stated_by}
 use Rattle.qf_forms.specs.declared.complaint.WishCell.{WishCell}
 use Rattle.qf_forms.specs.declared.complaint.WishCell.TheVariants.{Int, Text}
 use Rattle.qf_forms.specs.declared.complaint.Complaint.{Complaint}
 use Rattle.qf_forms.specs.Complaints.{Stated}
-use Rattle.qf_goal.specs.Asked.{text_of, text_in, stated_in, stated_texts, cell_of, with_joined}
+use Rattle.qf_goal.specs.Asked.{text_of, text_in, stated_texts, cell_of, with_joined}
 use Rattle.qf_goal.proofs.ListLemmas.{map-push, flat_map-push, take-more}
 
 -- ---- a place that passes a test
@@ -117,11 +118,11 @@ pub length-texts_in : (stated : List Stated) → length (flat_map text_in stated
 length-texts_in [] = omega arith
 length-texts_in (s ∷ stated) = omega (arith, length-append (text_in s) (flat_map text_in stated), length-texts_in stated, length-text_of s.1)
 
-pub length-stated_texts : (complaints : List Complaint) → AllByRecursion (λ (c : Complaint). length (stated_in c.wish) ≤ 32) complaints
+pub length-stated_texts : (complaints : List Complaint) → AllByRecursion (λ (c : Complaint). length (stated_by c.wish) ≤ 32) complaints
     → length (stated_texts complaints) ≤ 32 * length complaints
 length-stated_texts [] few = omega arith
 length-stated_texts (c ∷ complaints) few =
-    omega (arith, length-append (flat_map text_in (stated_in c.wish)) (stated_texts complaints), length-stated_texts complaints few.1, length-texts_in (stated_in c.wish), few.0)
+    omega (arith, length-append (flat_map text_in (stated_by c.wish)) (stated_texts complaints), length-stated_texts complaints few.1, length-texts_in (stated_by c.wish), few.0)
 
 -- ---- a list of what is made of items, whose texts join the program one after another
 

@@ -18,6 +18,7 @@ use Rattle.qf_ir.specs.Plan.{Plan}
 use Rattle.qf_ir.specs.Replay.{same_row}
 use Rattle.qf_ir.specs.Texts.{code_in, with_texts}
 use Rattle.qf_point.specs.Domains.{DomainBox}
+use Rattle.qf_forms.specs.Stated.{stated_by}
 use Rattle.qf_forms.specs.declared.complaint.WishCell.{WishCell}
 use Rattle.qf_forms.specs.declared.complaint.WishCell.TheVariants.{Int, Text}
 use Rattle.qf_forms.specs.declared.complaint.Wish.{Wish}
@@ -27,11 +28,6 @@ use Rattle.qf_forms.specs.Complaints.{Stated}
 use Rattle.qf_goal.specs.declared.fault.GoalFault.{GoalFault}
 use Rattle.qf_goal.specs.declared.fault.GoalFault.TheVariants.{TooManyComplaints, UnknownRow, RepeatedRow, ComplaintColumn, ComplaintType}
 use Rattle.qf_goal.specs.Case.{Case}
-
--- the values that a wish states
-abbrev pub stated_in : Wish → List Stated
-stated_in Absent = []
-stated_in (Present stated) = stated
 
 -- ---- refusals
 
@@ -75,7 +71,7 @@ abbrev pub fault_of : Plan → List RowName → ℕ → Complaint → Option Goa
 fault_of plan earlier number complaint =
     if not (row_exists plan complaint.row) then Some (UnknownRow number)
     else if list_any (is_row complaint.row) earlier then Some (RepeatedRow number)
-    else stated_fault plan.columns number (stated_in complaint.wish)
+    else stated_fault plan.columns number (stated_by complaint.wish)
 
 abbrev pub or_else : Option GoalFault → Option GoalFault → Option GoalFault
 or_else (Some fault) other = Some fault
@@ -98,7 +94,7 @@ text_in stated = text_of stated.1
 
 -- the stated texts, in the order of the complaints and of the cells in each
 abbrev pub stated_texts : List Complaint → List (List ℕ)
-stated_texts complaints = flat_map (λ (c : Complaint). flat_map text_in (stated_in c.wish)) complaints
+stated_texts complaints = flat_map (λ (c : Complaint). flat_map text_in (stated_by c.wish)) complaints
 
 -- a text counts by its place in the list of texts
 abbrev pub cell_of : List (List ℕ) → WishCell → Cell

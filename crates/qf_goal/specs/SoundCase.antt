@@ -8,30 +8,10 @@ use Rattle.qf_ir.specs.declared.cell.Ask.{Ask}
 use Rattle.qf_ir.specs.declared.cell.Ask.TheVariants as ask
 use Rattle.qf_ir.specs.declared.cell.Cell.{Cell}
 use Rattle.qf_ir.specs.declared.table.Column.{Column}
-use Rattle.qf_ir.specs.Fits.{Small}
 use Rattle.qf_ir.specs.Plan.{Plan, IsSound, Belongs, Fits, RowExists}
 use Rattle.qf_ir.specs.Replay.{same_row}
 use Rattle.qf_ir.specs.Tables.{CellIs, IsSoundTable}
-use Rattle.qf_forms.specs.declared.complaint.WishCell.{WishCell}
-use Rattle.qf_forms.specs.declared.complaint.WishCell.TheVariants.{Int, Text}
-use Rattle.qf_forms.specs.declared.complaint.Complaint.{Complaint}
-use Rattle.qf_forms.specs.Complaints.{Stated, are_distinct}
 use Rattle.qf_goal.specs.Case.{Case}
-use Rattle.qf_goal.specs.Asked.{stated_in}
-
--- ---- complaints
-
--- no name is stated twice
-abbrev pub StatesNamesOnce : Complaint → Type 0
-StatesNamesOnce complaint = are_distinct (stated_in complaint.wish) ≡ true
-
-abbrev pub IsSmallValue : WishCell → Type 0
-IsSmallValue (Int number) = Small number
-IsSmallValue (Text text) = Unit {0}
-
--- each stated number is within 2^50
-abbrev pub StatesSmallNumbers : Complaint → Type 0
-StatesSmallNumbers complaint = AllByRecursion (λ (s : Stated). IsSmallValue s.1) (stated_in complaint.wish)
 
 -- ---- problems
 

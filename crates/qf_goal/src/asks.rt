@@ -3,9 +3,10 @@
 ghost use Rattle.std.specs.Prelude.{◌≡◌, ◌+◌, ◌-◌, ◌<◌, ◌≤◌, ◌^◌, List as Items, ℕ, IfOk, OnOk, length, map};
 ghost use Rattle.std.specs.List.{flat_map, AllByRecursion};
 ghost use Rattle.qf_ir.specs.Texts.{with_texts};
+ghost use Rattle.qf_forms.specs.Stated.{stated_by};
 ghost use Rattle.qf_forms.specs.declared.complaint.Complaint.{Complaint as Element};
 ghost use Rattle.qf_goal.specs.Asked as spec;
-ghost use Rattle.qf_goal.specs.Asked.{is_called, text_of, text_in, listed_cell, stated_in, stated_texts, with_joined};
+ghost use Rattle.qf_goal.specs.Asked.{is_called, text_of, text_in, listed_cell, stated_texts, with_joined};
 
 use qf_base::{List, Name, NoMemory, RowName};
 use qf_forms::{Complaint, Wish, WishCell};
@@ -66,9 +67,9 @@ fn listed_cells(
 
 fn ask_of(alloc: Global, program: &mut Program, wish: &Wish) -> Result<Ask, NoMemory>
     requires columns { length program.old.columns ≤ 32 }
-    requires texts { length program.old.texts + length (stated_in wish.now) < 2 ^ 32 - 1 }
+    requires texts { length program.old.texts + length (stated_by wish.now) < 2 ^ 32 - 1 }
     ensures ask { IfOk result (λ ask. (more : Items (Items ℕ)) → ask ≡ spec.ask_of program.old.columns (with_texts program.new.texts more) wish.now) }
-    ensures plan { OnOk result (program.new ≡ with_joined program.old (flat_map text_in (stated_in wish.now))) }
+    ensures plan { OnOk result (program.new ≡ with_joined program.old (flat_map text_in (stated_by wish.now))) }
 {
     match wish {
         Wish::Absent => Ok(Ask::Absent),
@@ -85,7 +86,7 @@ pub(crate) fn asks_of(
     requires columns { length program.old.columns ≤ 32 }
     requires texts { length program.old.texts < 2 ^ 31 }
     requires few { length complaints.now ≤ 1000 }
-    requires few_cells { AllByRecursion (λ (c : Element). length (stated_in c.wish) ≤ 32) complaints.now }
+    requires few_cells { AllByRecursion (λ (c : Element). length (stated_by c.wish) ≤ 32) complaints.now }
     ensures asks { IfOk result (λ asks. asks ≡ spec.asks_of program.old.columns program.new.texts complaints.now) }
     ensures plan { OnOk result (program.new ≡ with_joined program.old (stated_texts complaints.now)) }
 {

@@ -1,9 +1,10 @@
 // What is wrong with a complaint.
 
+ghost use Rattle.qf_forms.specs.Stated.{stated_by};
 ghost use Rattle.std.specs.Prelude.{◌≡◌};
 ghost use Rattle.std.specs.Option.{option_copied};
 ghost use Rattle.std.specs.List.{list_any, find};
-ghost use Rattle.qf_goal.specs.Asked.{is_called, is_unknown, is_other_kind, is_mistyped, stated_in, row_exists, stated_fault};
+ghost use Rattle.qf_goal.specs.Asked.{is_called, is_unknown, is_other_kind, is_mistyped, row_exists, stated_fault};
 
 use crate::GoalFault;
 use qf_base::{Name, RowName};
@@ -12,7 +13,7 @@ use qf_ir::{Column, ColumnKind, Program};
 
 /// The values that a wish states.
 pub(crate) fn stated(wish: &Wish) -> &[(Name, WishCell)]
-    ensures { result.now ≡ stated_in wish.now }
+    ensures { result.now ≡ stated_by wish.now }
 {
     match wish {
         Wish::Absent => &[],

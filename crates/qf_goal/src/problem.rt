@@ -1,3 +1,4 @@
+ghost use Rattle.qf_forms.specs.Stated.{StatesNamesOnce, StatesSmallNumbers};
 ghost use Rattle.std.specs.Prelude.{◌≡◌, ◌<◌, ◌^◌, ◌↔◌, None, Some, IfOk, length, slice_get};
 ghost use Rattle.std.specs.List.{list_any, find, AllByRecursion};
 ghost use Rattle.qf_base.specs.Values.{In};
@@ -10,7 +11,7 @@ ghost use Rattle.qf_goal.specs.Kept.{misses_unasked};
 ghost use Rattle.qf_goal.specs.RowPlaces.{asked_rows, marks_of as row_marks};
 ghost use Rattle.qf_goal.specs.SeedPlaces.{case_seeds};
 ghost use Rattle.qf_goal.specs.Asked.{problem_of};
-ghost use Rattle.qf_goal.specs.SoundCase.{StatesNamesOnce, StatesSmallNumbers, IsSoundCase};
+ghost use Rattle.qf_goal.specs.SoundCase.{IsSoundCase};
 ghost use Rattle.qf_goal.specs.Faults.{Gives};
 
 use crate::GoalFault;

@@ -4,9 +4,11 @@
 mod cells;
 mod fault;
 mod header;
+mod laws;
 mod print;
 mod reading;
 
 pub use fault::TableFault;
+pub use laws::tables_say_their_records;
 pub use print::print_table;
 pub use reading::read_table;

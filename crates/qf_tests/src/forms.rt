@@ -1,6 +1,7 @@
 use qf_base::{List, RowName};
 use qf_forms::{Complaint, FormFault, Wish, WishCell, read_complaints, read_domains};
 use qf_point::DomainRow;
+use std::alloc::{AllocError, Global};
 use std::test::Fail;
 
 // What the bytes of domains are refused for, with a log of three parameters.
@@ -41,13 +42,29 @@ fn domains(rt: HostRuntime) -> Result<(), Fail> {
         ("", None),
         ("param,lo,hi", None),
         ("param,lo,hi\np1,0,9\np3,-9,007\n", None),
+        (
+            "param,lo,hi\np1,-9223372036854775808,9223372036854775807",
+            None,
+        ),
         ("param,lo\np1,0,9", Some(FormFault::BadDomain(0))),
+        ("param,lo,hi,to\np1,0,9", Some(FormFault::BadDomain(0))),
+        ("p1,0,9", Some(FormFault::BadDomain(0))),
         ("param,lo,Hi\np1,0,9", Some(FormFault::BadDomain(0))),
         (
             "param,lo,hi\np1,0,9\np2,0",
             Some(FormFault::UnevenDomain(2)),
         ),
         ("param,lo,hi\np01,0,9", Some(FormFault::BadDomain(1))),
+        ("param,lo,hi\np0,0,9", Some(FormFault::BadDomain(1))),
+        ("param,lo,hi\np1,0,+9", Some(FormFault::BadDomain(1))),
+        (
+            "param,lo,hi\np4294967295,0,9",
+            Some(FormFault::UnknownParam(1)),
+        ),
+        (
+            "param,lo,hi\np1,-9223372036854775809,9",
+            Some(FormFault::BadDomain(1)),
+        ),
         (
             "param,lo,hi\np4294967296,0,9",
             Some(FormFault::BadDomain(1)),
@@ -80,7 +97,16 @@ fn first_bad_complaints(rt: HostRuntime) {
             r#"[{"row":"r1"},{"row":"i2","state":"absent","set":{}}]"#,
             None,
         ),
+        (r#"[{"row":"r0","row":"r4294967295"}]"#, None),
+        (
+            r#"[{"row":"r1","set":{"a":1125899906842624,"b":-1125899906842624}}]"#,
+            None,
+        ),
         ("{}", Some(FormFault::BadJson)),
+        (
+            r#"[{"row":"r1","set":{"a":1e400}}]"#,
+            Some(FormFault::BadJson),
+        ),
         ("[", Some(FormFault::BadJson)),
         ("", Some(FormFault::BadJson)),
         ("[1]", Some(FormFault::BadComplaint(1))),
@@ -106,6 +132,26 @@ fn first_bad_complaints(rt: HostRuntime) {
             Some(FormFault::BadComplaint(1)),
         ),
         (
+            r#"[{"row":"r1","set":{"a":1e2}}]"#,
+            Some(FormFault::BadComplaint(1)),
+        ),
+        (
+            r#"[{"row":"r1","set":{"a":-0}}]"#,
+            Some(FormFault::BadComplaint(1)),
+        ),
+        (
+            r#"[{"row":"r1","set":{"a":null}}]"#,
+            Some(FormFault::BadComplaint(1)),
+        ),
+        (
+            r#"[{"row":"r1","set":null}]"#,
+            Some(FormFault::BadComplaint(1)),
+        ),
+        (
+            r#"[{"row":"r4294967296"}]"#,
+            Some(FormFault::BadComplaint(1)),
+        ),
+        (
             r#"[{"row":"r1","set":{"a":1125899906842625}}]"#,
             Some(FormFault::BadComplaint(1)),
         ),
@@ -120,6 +166,33 @@ fn first_bad_complaints(rt: HostRuntime) {
     ] {
         assert_eq!(rt; refused_complaints(&rt, text), want, "{text}");
     }
+}
+
+// Arrays in one another, so many deep.
+fn nested(alloc: Global, depth: u32) -> Result<String, AllocError> {
+    let mut text = String::new(alloc);
+    for _ in 0..depth {
+        text.push_str("[")?;
+    }
+    for _ in 0..depth {
+        text.push_str("]")?;
+    }
+    Ok(text)
+}
+
+#[test]
+fn deepest_json(rt: HostRuntime) -> Result<(), Fail> {
+    let text = nested(rt.alloc(), 127)?;
+    assert_eq!(rt;
+        refused_complaints(&rt, text.as_str()),
+        Some(FormFault::BadComplaint(1))
+    );
+    let text = nested(rt.alloc(), 128)?;
+    assert_eq!(rt;
+        refused_complaints(&rt, text.as_str()),
+        Some(FormFault::BadJson)
+    );
+    Ok(())
 }
 
 #[test]

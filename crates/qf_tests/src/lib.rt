@@ -4,6 +4,8 @@
 #[cfg(test)]
 mod base;
 #[cfg(test)]
+mod checking;
+#[cfg(test)]
 mod csv_files;
 #[cfg(test)]
 mod diagnose;

@@ -9,6 +9,9 @@ use std::io::ErrorKind;
 use std::process::ExitCode;
 use std::rt::Env;
 
+const USAGE: &str =
+    "usage: qfix diagnose INITIAL LOG COMPLAINTS DOMAINS BUDGET CERT | check INITIAL LOG COMPLAINTS DOMAINS CERT | replay INITIAL LOG | params INITIAL LOG (BUDGET 1 to 1000000, diagnose's CERT no input's name)";
+
 fn main(rt: HostRuntime) -> ExitCode {
     let status = match words_of(&rt) {
         Ok(words) => run_in(&rt, &words),
@@ -54,11 +57,7 @@ fn complaint(status: Status) -> Option<&'static str> {
         Status::ReadFault => Some("qfix: an input file is missing or could not be read"),
         Status::WriteFault => Some("qfix: an output could not be written in full"),
         Status::NoMemory => Some("qfix: memory was wanting"),
-        Status::Usage => {
-            Some(
-                "usage: qfix diagnose INITIAL LOG COMPLAINTS DOMAINS BUDGET CERT (BUDGET 1 to 1000000, CERT no input's name)",
-            )
-        }
+        Status::Usage => Some(USAGE),
         Status::Done | Status::Nothing | Status::Budget | Status::Refused | Status::Rejected =>
             None,
     }

@@ -1,0 +1,6 @@
+pub mod UndoLemmas
+pub mod StepsTaken
+pub mod SplitLemmas
+pub mod WalkLemmas
+pub mod GroundLemmas
+pub mod Judged

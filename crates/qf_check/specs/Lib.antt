@@ -1,0 +1,6 @@
+pub mod Undoing
+pub mod Splits
+pub mod RowsMade
+pub mod Grounding
+pub mod Walking
+pub mod Judging

@@ -1,0 +1,4 @@
+pub mod Instances
+pub mod Claims
+pub mod RowSystems
+pub mod Laws

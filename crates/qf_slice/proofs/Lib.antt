@@ -1,0 +1,11 @@
+pub mod Seeds
+pub mod Marking
+pub mod Numbers
+pub mod Boxes
+pub mod Stable
+pub mod Slices
+pub mod Twins
+pub mod RowGoals
+pub mod Slicing
+pub mod DomainSlices
+pub mod WorkedRows

@@ -1,0 +1,4 @@
+pub mod Marks
+pub mod Sliced
+pub mod RootBox
+pub mod Laws

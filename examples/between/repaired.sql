@@ -1,0 +1,1 @@
+UPDATE riders SET fare = 3 WHERE age BETWEEN 18 AND 65;

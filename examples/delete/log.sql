@@ -1,0 +1,1 @@
+DELETE FROM readings WHERE celsius > 40; -- the sensor never reads more

@@ -1,0 +1,1 @@
+UPDATE t SET rate = 30 WHERE income >= 86501;

@@ -1,0 +1,1 @@
+UPDATE customers SET tier = 'gold' WHERE spent >= 500;
