@@ -1,0 +1,16 @@
+//! Tests of the calls that the crates below the program offer, on worked examples, from outside. The library itself has
+//! nothing.
+#![tactic(auto)]
+
+#[cfg(test)]
+mod certificates;
+#[cfg(test)]
+mod finals;
+#[cfg(test)]
+mod logs;
+#[cfg(test)]
+mod programs;
+#[cfg(test)]
+mod reading;
+#[cfg(test)]
+mod stories;
