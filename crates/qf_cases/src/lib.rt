@@ -13,4 +13,6 @@ mod programs;
 #[cfg(test)]
 mod reading;
 #[cfg(test)]
+mod repairs;
+#[cfg(test)]
 mod stories;
