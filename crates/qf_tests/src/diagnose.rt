@@ -36,7 +36,7 @@ const FIVE: Inputs<'static> = Inputs {
     domains: b"",
 };
 
-pub(crate) fn words_of(alloc: Global, all: &[&str]) -> Result<List<Text>, Fail> {
+fn words_of(alloc: Global, all: &[&str]) -> Result<List<Text>, Fail> {
     let mut words = List::new(alloc);
     for word in all {
         words.push(Text::new(alloc, word)?)?;

@@ -4,8 +4,6 @@
 #[cfg(test)]
 mod base;
 #[cfg(test)]
-mod checking;
-#[cfg(test)]
 mod csv_files;
 #[cfg(test)]
 mod diagnose;
