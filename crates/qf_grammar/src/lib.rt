@@ -19,6 +19,3 @@ pub use laws::{forms_are_spelled, statements_are_stated};
 pub use lexeme::{Key, Lexeme, Mark};
 pub use tree::{Assign, Compare, Condition, Factor, Form, Item, Relation, Several, Side, Term};
 pub use uses::Use;
-
-#[cfg(test)]
-mod tests;
