@@ -4,14 +4,16 @@
 #[cfg(test)]
 mod base;
 #[cfg(test)]
-mod csv_files;
+mod checking;
 #[cfg(test)]
-mod diagnose;
+mod csv_files;
 #[cfg(test)]
 mod forms;
 #[cfg(test)]
 mod lex;
 #[cfg(test)]
 mod points;
+#[cfg(test)]
+mod runs;
 #[cfg(test)]
 mod tables;
