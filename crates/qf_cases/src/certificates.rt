@@ -1,28 +1,36 @@
 //! The text of certificates: read, written again, and where it is bad.
 
 use qf_certtext::{CertFault, read, write};
+use qf_tree::Cert;
 use std::alloc::Global;
 use std::fmt::Write;
 use std::test::Fail;
 
-/// `same` where the bytes are read as a certificate whose text they are, or the fault.
-fn text_shown(alloc: Global, bytes: &[u8]) -> Result<String, Fail> {
+/// `same` where the text of a certificate is these bytes.
+fn written_shown(alloc: Global, cert: &Cert, bytes: &[u8]) -> Result<String, Fail> {
+    let again = write(alloc, cert)?;
+    let is_same = again.as_slice() == bytes;
+    Ok(String::from_str(alloc, if is_same { "same" } else { "other" })?)
+}
+
+/// Why bytes are no certificate.
+fn fault_shown(alloc: Global, fault: CertFault) -> Result<String, Fail> {
     let mut shown = String::new(alloc);
-    match read(alloc, bytes) {
-        Ok(cert) => {
-            let again = write(alloc, &cert)?;
-            shown.push_str(if again.as_slice() == bytes {
-                "same"
-            } else {
-                "other"
-            })?;
-        }
-        Err(CertFault::BadLine(line)) => write!(shown, "bad line {line}")?,
-        Err(CertFault::CutShort) => shown.push_str("cut short")?,
-        Err(CertFault::Trailing(line)) => write!(shown, "trailing line {line}")?,
-        Err(CertFault::NoMemory) => return Err("memory ran out".into()),
+    match fault {
+        CertFault::BadLine(line) => write!(shown, "bad line {line}")?,
+        CertFault::CutShort => shown.push_str("cut short")?,
+        CertFault::Trailing(line) => write!(shown, "trailing line {line}")?,
+        CertFault::NoMemory => return Err("memory ran out".into()),
     }
     Ok(shown)
+}
+
+/// `same` where the bytes are read as a certificate whose text they are, or the fault.
+fn text_shown(alloc: Global, bytes: &[u8]) -> Result<String, Fail> {
+    match read(alloc, bytes) {
+        Ok(cert) => written_shown(alloc, &cert, bytes),
+        Err(fault) => fault_shown(alloc, fault),
+    }
 }
 
 // Certificates with `|` for each line feed, and what is said of them.

@@ -61,6 +61,12 @@ pub fn repeated(
     Ok(bytes)
 }
 
+/// The number of times that a word is.
+pub fn number_of(word: &str) -> Result<usize, Fail> {
+    let number = numeral_within(word.as_bytes(), 0, 1_000_000);
+    Ok(usize::try_from(number.ok_or("a number")?)?)
+}
+
 /// The numbers of a text, with single spaces between them.
 pub fn values_of(alloc: Global, text: &str) -> Result<List<i64>, Fail> {
     let mut values = List::new(alloc);

@@ -1,6 +1,7 @@
 //! Repaired texts of logs, and what they say when they are read again.
 ghost use Rattle.std.specs.Prelude.{◌≡◌};
 ghost use Rattle.std.specs.List.{list_all};
+ghost use Rattle.qf_log.specs.Reading.{IsLogOf};
 ghost use Rattle.qf_point.specs.Domains as domains;
 
 use crate::reading::{log_of, values_of};
@@ -26,17 +27,26 @@ fn are_small(values: &[i64]) -> bool
 
 /// The text of a log with these values as its constants.
 #[tactic(auto, using(crate::proofs::SmallPoints::point_fits))]
-fn repaired_text(alloc: Global, log: &str, values: &List<i64>) -> Result<List<u8>, Fail> {
-    let bytes = log.as_bytes();
-    let read = log_of(alloc, bytes)?;
-    if values.len() != read.parameters().len() || bytes.len() >= 1 << 30 {
+fn text_with(alloc: Global, bytes: &[u8], log: &Log, values: &List<i64>) -> Result<List<u8>, Fail>
+    requires { IsLogOf bytes.now log.now }
+{
+    if values.len() != log.parameters().len() || bytes.len() >= 1 << 30 {
         return Err("a value for each parameter".into());
     }
     if !are_small(values.as_slice()) {
         return Err("values within 2^50".into());
     }
     let point = Point::new(alloc, values)?;
-    Ok(repaired(alloc, bytes, &read, &point)?)
+    Ok(repaired(alloc, bytes, log, &point)?)
+}
+
+/// The text of the log that a text is, with these values as its constants.
+fn repaired_text(alloc: Global, text: &str, values: &List<i64>) -> Result<List<u8>, Fail> {
+    let bytes = text.as_bytes();
+    match log_of(alloc, bytes) {
+        Ok(log) => text_with(alloc, bytes, &log, values),
+        Err(refusal) => Err(refusal.into()),
+    }
 }
 
 /// Whether a log has these values as its constants.
