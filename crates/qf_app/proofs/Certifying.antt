@@ -1,11 +1,11 @@
 -- What the checker gives is what is said of the bytes, and no bytes have two answers.
-use Rattle.std.proofs.Common.{◌≡◌, ◌≢◌, ◌⊎◌, ◌↔◌, ℕ, List, Result, Ok, Err, inl, inr, refl, sym, ◌∙◌, ap, subst}
+use Rattle.std.proofs.Common.{◌≡◌, ◌⊎◌, ℕ, List, Result, Ok, Err, inl, inr, refl, sym, ◌∙◌, subst}
 use Rattle.std.specs.Prelude.{IfOk}
 use Rattle.std.specs.declared.option.Option.{Option}
 use Rattle.std.specs.declared.option.Option.TheVariants.{Some, None}
 use Rattle.qf_base.specs.declared.status.Status.{Status}
 use Rattle.qf_base.specs.declared.status.Status.TheVariants as status
-use Rattle.qf_certtext.specs.Texts.{IsText, IsFaultOf, Reading, whole, bad_line, cut_short, trailing, IsReading}
+use Rattle.qf_certtext.specs.Texts.{IsText, IsFaultOf, whole, bad_line, cut_short, trailing}
 use Rattle.qf_certtext.specs.declared.fault.CertFault.{CertFault}
 use Rattle.qf_certtext.specs.declared.fault.CertFault.TheVariants as fault
 use Rattle.qf_certtext.proofs.OneReading.{readings_are_one}
@@ -17,9 +17,9 @@ use Rattle.qf_instance.specs.Instances.{IsInstance}
 use Rattle.qf_instance.proofs.Instances.{one}
 use Rattle.qf_shell.specs.declared.answer.Answer.{Answer}
 use Rattle.qf_tree.proofs.Faults.{bad_lines_found}
-use Rattle.qf_tree.specs.Certificates.{Instance, IsValid, first_bad_line}
+use Rattle.qf_tree.specs.Certificates.{Instance, IsValid}
 use Rattle.qf_tree.specs.declared.cert.Cert.{Cert}
-use Rattle.qf_app.specs.Checking.{IsProof, IsAccepted, IsRejected, IsUnread, IsChecked, IsFaultLine, accepted_line}
+use Rattle.qf_app.specs.Checking.{IsProof, IsRejected, IsChecked, IsFaultLine, accepted_line}
 
 -- ---- what was judged
 

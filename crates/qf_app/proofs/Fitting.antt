@@ -1,6 +1,5 @@
 -- What is accepted is answered, and what is refused has its refusal.
 use Rattle.std.proofs.Common.{◌≡◌, ◌⊎◌, ℕ, List, Result, Ok, Err, inl, inr, refl, sym, ◌∙◌, ap, subst}
-use Rattle.qf_base.specs.Refusal.{refusal_bytes}
 use Rattle.qf_base.specs.declared.refusal.Refusal.{Refusal}
 use Rattle.qf_base.specs.declared.status.Status.{Status}
 use Rattle.qf_base.specs.declared.status.Status.TheVariants.{Done, Nothing, Budget, Refused, ReadFault, WriteFault, NoMemory, Usage, Rejected}
@@ -9,9 +8,9 @@ use Rattle.qf_inputs.specs.Opened.{IsQuestion}
 use Rattle.qf_inputs.specs.declared.opened.Opened.{Opened}
 use Rattle.qf_inputs.specs.declared.story.Story.{Story}
 use Rattle.qf_inputs.proofs.OneReading.{stories_are_one, questions_are_one}
-use Rattle.qf_app.specs.Answers.{or_refused, IsAsked, IsFound, IsDiagnosis, IsCheck, if_few_points, IsReplayed, IsFinalTable, IsTable, if_narrow, AreItsParameters, AreParameters}
-use Rattle.qf_app.specs.Laws.{AnswersFit, ChecksFit, DiagnosesFit, CertificatesFit, TablesFit, ParametersFit}
-use Rattle.qf_app.specs.Checking.{IsChecked, IsProof}
+use Rattle.qf_app.specs.Answers.{or_refused, IsAsked, IsFound, IsCheck, if_few_points, IsReplayed, IsFinalTable, if_narrow, AreItsParameters}
+use Rattle.qf_app.specs.Laws.{DiagnosesFit, CertificatesFit, TablesFit, ParametersFit}
+use Rattle.qf_app.specs.Checking.{IsChecked}
 use Rattle.qf_app.proofs.Certifying.{done_or_rejected, proof_is_done, else_rejected}
 
 abbrev pub IsGood : Status → Type 0

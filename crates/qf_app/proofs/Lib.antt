@@ -1,4 +1,3 @@
-pub mod FilesRead
 pub mod Certifying
 pub mod Fitting
 pub mod FinalCodes

@@ -1,7 +1,7 @@
 -- Command lines, worked out.
 use Rattle.std.specs.Prelude.{◌≡◌, ℕ, List, [], ◌∷◌, Some, None, refl}
 use lib.Chars.{codes}
-use Rattle.qf_app.specs.Request.{Request, Diagnosis, diagnose, check, replay, params, question_of, request_of}
+use Rattle.qf_app.specs.Request.{Request, diagnose, check, replay, params, question_of, request_of}
 
 -- the words `diagnose rates.csv tax.sql wishes.json domains.csv`, with a budget and a name behind them
 abbrev tax_words : List ℕ → List ℕ → List (List ℕ)

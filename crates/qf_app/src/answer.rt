@@ -2,7 +2,6 @@ ghost use Rattle.std.specs.Prelude.{◌≡◌, ◌≤◌, ◌^◌, length, take,
 ghost use Rattle.std.specs.List.{AllByRecursion};
 ghost use Rattle.qf_base.specs.Refusal.{refusal_bytes};
 ghost use Rattle.qf_base.specs.declared.status.Status.TheVariants as status;
-ghost use Rattle.qf_shell.specs.Promise.{IsAnswered};
 ghost use Rattle.qf_app.specs.Answers.{answers_of};
 ghost use Rattle.qf_app.specs.Meaning.{meaning_of};
 ghost use Rattle.qf_app.specs.Request.{input_words};

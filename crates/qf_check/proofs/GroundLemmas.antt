@@ -1,10 +1,12 @@
 -- What the problem, its root box and a row's system say of a box in the root box.
 use Rattle.std.proofs.Common.{◌≡◌, ◌∙◌, ap, sym, subst, refl, ℕ, true, List, [], ◌∷◌, length, Option, Some, arith, ℤ, pos, IfSome}
+use Rattle.std.specs.List.Sorted.{IsNonDecreasing}
 use Rattle.qf_base.specs.Values.{Bounds, is_in}
 use Rattle.qf_base.specs.declared.names.RowName.{RowName}
 use Rattle.qf_base.proofs.BoxLaws.{In-is_in, length-In}
 use Rattle.qf_circuit.specs.Circuits.{hull_of, hull_of_def}
 use Rattle.qf_circuit.proofs.Built.{built_length}
+use Rattle.qf_rows.specs.Encoding.{selectors_of}
 use Rattle.qf_goal.specs.Asked.{row_exists}
 use Rattle.qf_goal.specs.Case.{Case, goal_at}
 use Rattle.qf_goal.specs.SoundCase.{IsSoundCase}
@@ -23,6 +25,7 @@ use Rattle.qf_base.specs.declared.names.RowName.TheVariants.{Start, Inserted}
 use Rattle.qf_check.specs.declared.made.Made.{Made}
 use Rattle.qf_check.specs.RowsMade.{AreMade, made_of}
 use Rattle.qf_check.specs.Undoing.{AreVars}
+use Rattle.qf_check.proofs.SelectorLemmas.{selectors_rise}
 use Rattle.qf_check.specs.Grounding.{instance, FitsBox}
 
 -- ---- lengths
@@ -46,9 +49,11 @@ fits_box case root region row made is box =
     let circuit = made.coded.circuit in
     let long : length (hull_of region circuit) ≡ length circuit = built_length (hull_of_def region) (pos 0, pos 0) [] circuit ∙ omega arith in
     let vars : made.system.vars ≡ length circuit = ap (λ (s : System). s.vars) is.system in
+    let selectors : made.system.selectors ≡ selectors_of circuit = ap (λ (s : System). s.selectors) is.system in
     record {
       hulls = (is.small region box).hulls;
       selectors = subst (λ n. AreVars n made.system.selectors) (vars ∙ sym long) is.well_formed.selectors;
+      rising = subst IsNonDecreasing (sym selectors) (selectors_rise 1 circuit);
       fits = is.fits region box;
     }
 

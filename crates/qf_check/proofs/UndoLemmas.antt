@@ -107,6 +107,7 @@ module _ (system : System) (old new : Refuting) (var : ℕ) (bound : Bound) wher
   pub took_tracked : (why : Cause) → IsTracked system old → Took old new why var bound → IsTracked system new
   took_tracked why k t = record {
     selectors = subst (λ n. AreVars n system.selectors) (sym (took_long why t)) k.selectors;
+    rising = k.rising;
     fits = rw (t.bounds, t.changes) (fits_changed system old.bounds old.changes why var bound former refl t.first t.last k.fits);
     crossed = t.crossed;
     depth = t.depth ∙ ap (counted why) k.depth ∙ sym (ap case_count t.changes);
@@ -161,6 +162,7 @@ undid_tracked system old new change rest k u =
     let shallow = k.shallow in
     record {
       selectors = subst (λ n. AreVars n system.selectors) (sym long) k.selectors;
+      rising = k.rising;
       fits = rw (u.bounds, u.left) parts.2;
       crossed = u.crossed;
       depth = d ∙ ap case_count (sym u.left);

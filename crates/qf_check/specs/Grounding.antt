@@ -1,5 +1,6 @@
 -- What the nodes of a certificate are held against.
 use Rattle.std.specs.Prelude.{◌≡◌, ℕ, true, [], length}
+use Rattle.std.specs.List.Sorted.{IsNonDecreasing}
 use Rattle.qf_base.specs.Values.{Bounds}
 use Rattle.qf_circuit.specs.Circuits.{hull_of}
 use Rattle.qf_circuit.specs.Limits.{HullsFit}
@@ -23,4 +24,5 @@ pub record AreGrounds (g : Grounds) : Type 0 where
 pub record FitsBox (made : RowSystem) (region : Bounds) : Type 0 where
   pub hulls : HullsFit region [] made.coded.circuit
   pub selectors : AreVars (length (hull_of region made.coded.circuit)) made.system.selectors
+  pub rising : IsNonDecreasing made.system.selectors
   pub fits : RowsFit made.system (hull_of region made.coded.circuit)

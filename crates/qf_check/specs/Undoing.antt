@@ -1,5 +1,6 @@
 -- What is still to be refuted, told from the bounds at hand and the changes that led to them.
 use Rattle.std.specs.Prelude.{◌≡◌, ℕ, suc, ◌-◌, ◌<◌, ◌≤◌, Bool, true, false, List, [], ◌∷◌, length, slice_set, count_by, int_lt, All}
+use Rattle.std.specs.List.Sorted.{IsNonDecreasing}
 use Rattle.qf_base.specs.Values.{Interval, Bounds, interval_of_var}
 use Rattle.qf_base.specs.declared.names.Bound.{Bound}
 use Rattle.qf_lin.specs.declared.inequality.System.{System}
@@ -68,6 +69,7 @@ FitsThroughout system bounds (change ∷ changes) =
 -- the counts are right, and the system can be used all along
 pub record IsTracked (system : System) (r : Refuting) : Type 0 where
   pub selectors : AreVars (length r.bounds) system.selectors
+  pub rising : IsNonDecreasing system.selectors
   pub fits : FitsThroughout system r.bounds r.changes
   pub crossed : r.crossed ≡ count_by is_crossed r.bounds
   pub depth : r.depth ≡ case_count r.changes

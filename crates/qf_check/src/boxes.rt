@@ -5,7 +5,6 @@ ghost use Rattle.qf_base.specs.Values.{Bounds};
 ghost use Rattle.qf_point.specs.Points.{lower_half, upper_half};
 ghost use Rattle.qf_tree.specs.Certificates.{cuts_inside};
 ghost use Rattle.qf_encode.specs.Lives.{BoxIn};
-ghost use Rattle.qf_check.specs.Splits as spec;
 ghost use Rattle.qf_check.specs.Splits.{boxes_of, boxes_to_come, LieIn};
 
 use crate::stack::Stack;

@@ -1,4 +1,4 @@
-ghost use Rattle.std.specs.Prelude.{◌≡◌, ◌+◌, ◌&&◌, true, IfOk, IsTrue};
+ghost use Rattle.std.specs.Prelude.{◌≡◌, ◌&&◌, true, IfOk, IsTrue};
 ghost use Rattle.qf_base.specs.Values.{is_in};
 ghost use Rattle.qf_point.specs.Points as points;
 ghost use Rattle.qf_goal.specs.Case.{mends};
@@ -9,7 +9,7 @@ ghost use Rattle.qf_tree.specs.Certificates as spec;
 ghost use Rattle.qf_tree.specs.Certificates.{Instance};
 ghost use Rattle.qf_encode.specs.Lives.{BoxIn};
 ghost use Rattle.qf_instance.specs.Instances.{IsInstance};
-ghost use Rattle.qf_check.specs.Grounding.{instance, AreGrounds};
+ghost use Rattle.qf_check.specs.Grounding.{instance};
 ghost use Rattle.qf_check.specs.Walking.{as_list, ends_right, Begins};
 ghost use Rattle.qf_check.specs.Judging.{IsAnswered, IsJudged, Holds, HoldsIn, LiesInRootBox, verdict_of};
 

@@ -1,12 +1,11 @@
 // Whether a node keeps its rule.
 
-ghost use Rattle.std.specs.Prelude.{◌≡◌, [], ◌∷◌, ◌+◌, ◌&&◌, true, not, length, IsTrue, OnOk, IfOk};
+ghost use Rattle.std.specs.Prelude.{◌≡◌, [], ◌∷◌, ◌+◌, ◌&&◌, not, length, OnOk, IfOk};
 ghost use Rattle.qf_point.specs.Points.{cost, better, cheapest};
 ghost use Rattle.qf_circuit.specs.Circuits.{hull_of};
 ghost use Rattle.qf_encode.specs.Lives.{BoxIn};
 ghost use Rattle.qf_tree.specs.Refutations as refutation;
 ghost use Rattle.qf_tree.specs.Certificates as spec;
-ghost use Rattle.qf_instance.specs.RowSystems.{IsRowSystem};
 ghost use Rattle.qf_check.specs.RowsMade.{AreMade};
 ghost use Rattle.qf_check.specs.Grounding.{instance, AreGrounds, FitsBox};
 

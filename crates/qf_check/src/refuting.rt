@@ -1,7 +1,8 @@
 // Whether steps refute bounds: the bounds that are still to be refuted, changed in place.
 
-ghost use Rattle.std.specs.Prelude.{◌≡◌, [], ◌∷◌, ◌<◌, ◌≤◌, ◌+◌, ◌-◌, ◌^◌, ◌==◌, true, false, length, slice_set, count_by, nat_lt, All, OnOk, IfOk};
+ghost use Rattle.std.specs.Prelude.{◌≡◌, [], ◌∷◌, ◌<◌, ◌≤◌, ◌+◌, ◌-◌, ◌^◌, ◌==◌, true, false, length, slice_set, count_by, OnOk, IfOk};
 ghost use Rattle.std.specs.List.{list_any};
+ghost use Rattle.std.specs.List.Sorted.{IsNonDecreasing};
 ghost use Rattle.qf_lin.specs.declared.inequality.System.{System as SystemValue};
 ghost use Rattle.qf_tree.specs.Refutations.{keeps_rule, pending_after, first_wrong_step};
 ghost use Rattle.qf_instance.specs.RowSystems.{FitsUnlessEmpty};
@@ -96,17 +97,19 @@ fn taken(bound: Bound, interval: (i64, i64)) -> (i64, i64)
     }
 }
 
+// A search by halves: a system may have tens of thousands of selectors, and a refutation a million cases.
 fn is_selector(system: &System, var: u32) -> bool
+    requires rising { IsNonDecreasing system.now.selectors }
     ensures { result ≡ list_any (λ s. s == var) system.now.selectors }
 {
-    system.selectors.as_slice().iter().any(|s| *s == var)
+    system.selectors.as_slice().binary_search(&var).is_ok()
 }
 
 impl Refuting {
     // These bounds alone are to be refuted.
     fn new(alloc: Global, bounds: Intervals) -> Refuting
         ensures pending { pending result ≡ (bounds, 0) ∷ [] }
-        ensures tracked { (system : SystemValue) → AreVars (length bounds) system.selectors → FitsUnlessEmpty system bounds → IsTracked system result }
+        ensures tracked { (system : SystemValue) → AreVars (length bounds) system.selectors → IsNonDecreasing system.selectors → FitsUnlessEmpty system bounds → IsTracked system result }
     {
         let crossed = crossed_count(&bounds);
         Refuting {
@@ -272,6 +275,7 @@ pub fn first_wrong_step(
     steps: &List<Step>,
 ) -> Result<Option<u64>, NoMemory>
     requires selectors { AreVars (length bounds) system.now.selectors }
+    requires rising { IsNonDecreasing system.now.selectors }
     requires fits { FitsUnlessEmpty system.now bounds }
     ensures { IfOk result (λ wrong. wrong ≡ first_wrong_step system.now ((bounds, 0) ∷ []) steps.now) }
 {

@@ -1,6 +1,6 @@
 // One walk over the nodes of a certificate.
 
-ghost use Rattle.std.specs.Prelude.{◌≡◌, ◌∷◌, ◌++◌, ◌+◌, ◌||◌, ℕ, Some, None, [], false, cond, length, List as Items, OnOk, IfOk, IfErr, IsTrue};
+ghost use Rattle.std.specs.Prelude.{◌≡◌, ◌∷◌, ◌++◌, ◌||◌, Some, None, [], false, cond, length, List as Items, OnOk, IfOk, IfErr, IsTrue};
 ghost use Rattle.qf_point.specs.Points.{cost, cheapest};
 ghost use Rattle.qf_tree.specs.declared.tree.Node.{Node as NodeValue};
 ghost use Rattle.qf_tree.specs.Certificates as spec;
