@@ -3,13 +3,11 @@
 #![tactic(auto)]
 
 #[cfg(test)]
+mod boards;
+#[cfg(test)]
 mod certificates;
 #[cfg(test)]
-mod finals;
-#[cfg(test)]
-mod logs;
-#[cfg(test)]
-mod programs;
+mod circuits;
 #[cfg(test)]
 mod reading;
 #[cfg(test)]

@@ -2,18 +2,10 @@
 #![tactic(auto)]
 
 #[cfg(test)]
-mod base;
-#[cfg(test)]
 mod checking;
 #[cfg(test)]
-mod csv_files;
-#[cfg(test)]
-mod forms;
+mod desks;
 #[cfg(test)]
 mod lex;
 #[cfg(test)]
-mod points;
-#[cfg(test)]
 mod runs;
-#[cfg(test)]
-mod tables;

@@ -1,5 +1,5 @@
-//! Runs the program's work on the rows of the file `rows`, and says which of them come out otherwise than they state. The
-//! head of that file tells the form of the rows.
+//! Runs the program's work on the rows of files, and says which of them come out otherwise than they state. README.md beside
+//! the files tells the form of the rows.
 #![tactic(auto)]
 
 mod escapes;
@@ -14,6 +14,18 @@ use std::process::ExitCode;
 
 const MOST_BYTES: u64 = 1 << 24;
 
+const FILES: [&str; 9] = [
+    "answers",
+    "certificates",
+    "desks",
+    "finals",
+    "inputs",
+    "logs",
+    "otherwise",
+    "refusals",
+    "tables",
+];
+
 fn main(rt: HostRuntime) -> ExitCode {
     let status = match rt.clone() {
         Ok(own) => work(rt.alloc(), &mut FileDesk::new(rt.alloc(), own)),
@@ -22,19 +34,21 @@ fn main(rt: HostRuntime) -> ExitCode {
     ExitCode::from(status.code())
 }
 
-// Reads the rows, runs them, and says the report.
+// Reads and runs the rows of each file, and says the reports.
 fn work<D: Desk>(alloc: Global, desk: &mut D) -> Status {
-    let rows = match desk.read(alloc, "rows", MOST_BYTES) {
-        Ok(rows) => rows,
-        Err(fault) => return ended(fault),
-    };
-    match report_of(alloc, &rows) {
-        Ok(report) => match desk.say(alloc, report.as_bytes()) {
-            Ok(()) => Status::Done,
-            Err(fault) => ended(fault),
-        },
-        Err(NoMemory) => Status::NoMemory,
+    for file in FILES {
+        if let Err(status) = run_file(alloc, desk, file) {
+            return status;
+        }
     }
+    Status::Done
+}
+
+// Reads and runs the rows of a file, and says the report; else the status of the run that a fault ends.
+fn run_file<D: Desk>(alloc: Global, desk: &mut D, file: &str) -> Result<(), Status> {
+    let rows = desk.read(alloc, file, MOST_BYTES).map_err(ended)?;
+    let report = report_of(alloc, file, &rows).map_err(|_| Status::NoMemory)?;
+    desk.say(alloc, report.as_bytes()).map_err(ended)
 }
 
 // The status of a run that a desk's fault ends.
@@ -46,10 +60,10 @@ fn ended(fault: DeskFault) -> Status {
     }
 }
 
-// What is reported of the rows.
-fn report_of(alloc: Global, rows: &List<u8>) -> Result<String, NoMemory> {
+// What is reported of the rows of a file.
+fn report_of(alloc: Global, file: &str, rows: &List<u8>) -> Result<String, NoMemory> {
     match std::str::from_utf8(rows.as_slice()) {
-        Ok(text) => reported(alloc, text),
-        Err(_) => Ok(String::from_str(alloc, "the rows are no text in UTF-8\n")?),
+        Ok(text) => reported(alloc, file, text),
+        Err(_) => Ok(String::from_str(alloc, "a file is no text in UTF-8\n")?),
     }
 }

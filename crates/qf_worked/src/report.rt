@@ -1,4 +1,4 @@
-//! The report of the rows of a text.
+//! The report of the rows of a file.
 
 use crate::row::{Fault, Row};
 use crate::running::comes_out;
@@ -61,33 +61,40 @@ impl<'a> Reading<'a> {
     }
 
     // Reports that a line was not understood.
-    fn note(&mut self, number: u64, taken: Result<(), Fault>) -> Result<(), NoMemory> {
+    fn note(&mut self, file: &str, number: u64, taken: Result<(), Fault>) -> Result<(), NoMemory> {
         match taken {
-            Ok(()) => Ok(()),
-            Err(Fault::Unknown) => Ok(writeln!(self.report, "line {number} is not understood")?),
-            Err(Fault::NoMemory) => Err(NoMemory),
+            Ok(()) => {}
+            Err(Fault::Unknown) => writeln!(
+                self.report,
+                "{file}: line {number} is not understood"
+            )?,
+            Err(Fault::NoMemory) => return Err(NoMemory),
         }
+        Ok(())
     }
 }
 
-/// The report of the rows: a line for each that comes out otherwise than it states and for each line that is not
-/// understood, and a last line with their numbers.
-pub fn reported(alloc: Global, text: &str) -> Result<String, NoMemory> {
+/// The report of the rows of a file's text: a line for each that comes out otherwise than it states and for each line that
+/// is not understood, and a last line with their numbers.
+pub fn reported(alloc: Global, file: &str, text: &str) -> Result<String, NoMemory> {
     let mut reading = Reading::new(alloc);
     let mut number = 0u64;
     for line in text.lines() {
         number = number.wrapping_add(1);
         let taken = reading.take(alloc, line);
-        reading.note(number, taken)?;
+        reading.note(file, number, taken)?;
     }
     let taken = reading.run_row(alloc);
-    reading.note(number, taken)?;
+    reading.note(file, number, taken)?;
     let Reading {
         rows,
         otherwise,
         mut report,
         ..
     } = reading;
-    writeln!(report, "{rows} rows, {otherwise} otherwise than stated")?;
+    writeln!(
+        report,
+        "{file}: {rows} rows, {otherwise} otherwise than stated"
+    )?;
     Ok(report)
 }
