@@ -19,7 +19,8 @@ use Rattle.qf_shell.specs.declared.answer.Answer.{Answer}
 use Rattle.qf_tree.proofs.Faults.{bad_lines_found}
 use Rattle.qf_tree.specs.Certificates.{Instance, IsValid}
 use Rattle.qf_tree.specs.declared.cert.Cert.{Cert}
-use Rattle.qf_app.specs.Checking.{IsProof, IsRejected, IsChecked, IsFaultLine, accepted_line}
+use Rattle.qf_app.specs.Answers.{IsLine}
+use Rattle.qf_app.specs.Checking.{IsProof, IsRejected, IsCheckedWith, IsChecked, IsFaultLine, accepted_line}
 
 -- ---- what was judged
 
@@ -27,23 +28,25 @@ abbrev pub HasJudgement : Case → Cert → Result Verdict CheckFault → Type 0
 HasJudgement case cert result = IsAnswered result → (inst : Instance) × IsInstance case inst × IsJudged inst inst.root cert result
 
 pub accepted_is : {E : Type 0} (case : Case) (cert : Cert) (given : Result Verdict CheckFault) (verdict : Verdict) (result : Result Answer E) (bytes : List ℕ)
-    → given ≡ Ok verdict → HasJudgement case cert given → IfOk given (Holds case)
-    → IfOk result (λ (a : Answer). a.status ≡ status.Done) → IfOk result (λ (a : Answer). a.line ≡ accepted_line verdict)
-    → IsText cert bytes → IfOk result (λ (a : Answer). IsChecked case bytes a.status a.line)
-accepted_is case cert given verdict (Err e) bytes is judged holds status_is line_is text = tt
-accepted_is case cert given verdict (Ok a) bytes is judged holds status_is line_is text =
+    → given ≡ Ok verdict → HasJudgement case cert given → IfOk given (Holds case) → IfOk result (IsLine status.Done (accepted_line verdict))
+    → IsText cert bytes → IfOk result (IsChecked case bytes)
+accepted_is case cert given verdict (Err e) bytes is judged holds line text = tt
+accepted_is case cert given verdict (Ok a) bytes is judged holds line text =
     let j = subst (HasJudgement case cert) is judged tt in
-    subst (λ (s : Status). IsChecked case bytes s a.line) (sym status_is) (record {
-      proof = record { cert = cert; text = text; inst = j.0; is_instance = j.1; valid = j.2.0 };
-      verdict = verdict;
-      verdict_is = j.2.1;
-      holds = subst (λ (r : Result Verdict CheckFault). IfOk r (Holds case)) is holds;
-      line_is = line_is;
-    })
+    record {
+      checked = subst (λ (s : Status). IsCheckedWith case bytes s a.line) (sym line.status_is) (record {
+        proof = record { cert = cert; text = text; inst = j.0; is_instance = j.1; valid = j.2.0 };
+        verdict = verdict;
+        verdict_is = j.2.1;
+        holds = subst (λ (r : Result Verdict CheckFault). IfOk r (Holds case)) is holds;
+        line_is = line.line_is;
+      });
+      files = line.files;
+    }
 
 -- ---- one answer
 
-pub done_or_rejected : (case : Case) (bytes : List ℕ) (s : Status) (line : List ℕ) → IsChecked case bytes s line → (s ≡ status.Done) ⊎ (s ≡ status.Rejected)
+pub done_or_rejected : (case : Case) (bytes : List ℕ) (s : Status) (line : List ℕ) → IsCheckedWith case bytes s line → (s ≡ status.Done) ⊎ (s ≡ status.Rejected)
 done_or_rejected case bytes status.Done line h = inl refl
 done_or_rejected case bytes status.Nothing line h = absurd h
 done_or_rejected case bytes status.Budget line h = absurd h
@@ -87,7 +90,7 @@ not_rejected case bytes line good bad =
     let valid = subst (λ (i : Instance). IsValid i i.root bad.cert) same_inst (subst (λ (c : Cert). IsValid good.inst good.inst.root c) same_cert good.valid) in
     none_not_some bad.number (sym ((bad_lines_found bad.inst bad.inst.root bad.cert bad.text.spelled).1 valid) ∙ bad.first)
 
-pub proof_is_done : (case : Case) (bytes : List ℕ) (s : Status) (line : List ℕ) → IsProof case bytes → IsChecked case bytes s line → s ≡ status.Done
+pub proof_is_done : (case : Case) (bytes : List ℕ) (s : Status) (line : List ℕ) → IsProof case bytes → IsCheckedWith case bytes s line → s ≡ status.Done
 proof_is_done case bytes status.Done line good h = refl
 proof_is_done case bytes status.Nothing line good h = absurd h
 proof_is_done case bytes status.Budget line good h = absurd h
@@ -99,7 +102,7 @@ proof_is_done case bytes status.Usage line good h = absurd h
 proof_is_done case bytes status.Rejected line good (inl bad) = absurd (not_rejected case bytes line good bad)
 proof_is_done case bytes status.Rejected line good (inr bad) = absurd (no_fault good.cert bytes line bad.fault good.text bad.is_fault bad.line_is)
 
-pub else_rejected : (case : Case) (bytes : List ℕ) (s : Status) (line : List ℕ) → (IsProof case bytes → ⊥) → IsChecked case bytes s line → s ≡ status.Rejected
+pub else_rejected : (case : Case) (bytes : List ℕ) (s : Status) (line : List ℕ) → (IsProof case bytes → ⊥) → IsCheckedWith case bytes s line → s ≡ status.Rejected
 else_rejected case bytes status.Done line none h = absurd (none h.proof)
 else_rejected case bytes status.Nothing line none h = absurd h
 else_rejected case bytes status.Budget line none h = absurd h

@@ -5,3 +5,6 @@ pub mod Finding
 pub mod Splicing
 pub mod Ending
 pub mod Asking
+pub mod Reading
+pub mod Alone
+pub mod Completion

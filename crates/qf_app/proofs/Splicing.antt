@@ -1,5 +1,5 @@
 -- A least repair has one value within 2^50 for each parameter of the log.
-use Rattle.std.proofs.Common.{◌≡◌, suc, ◌^◌, ◌≤◌, ◌≤ℤ◌, ℤ, pos, negsuc, true, List, [], ◌∷◌, length, map, refl, sym, ◌∙◌, ap, subst, arith}
+use Rattle.std.proofs.Common.{◌≡◌, suc, ◌^◌, ◌<◌, ◌≤◌, ◌≤ℤ◌, ℤ, pos, negsuc, true, List, [], ◌∷◌, length, map, refl, sym, ◌∙◌, ap, subst, arith}
 use Rattle.std.specs.List.{AllByRecursion}
 use Rattle.std.proofs.lemmas.Bool.Decides.{nat_tests}
 use Rattle.std.proofs.lemmas.Int.{ints}
@@ -7,6 +7,8 @@ use Rattle.qf_base.proofs.BoxLaws.{length-In}
 use Rattle.qf_base.specs.Values.{Bounds, In}
 use Rattle.qf_goal.specs.Case.{Case, IsLeastRepair}
 use Rattle.qf_goal.specs.SoundCase.{IsSoundCase}
+use Rattle.qf_inputs.specs.Known.{IsSoundStory}
+use Rattle.qf_inputs.specs.declared.story.Story.{Story}
 use Rattle.qf_ir.specs.Fits.{Small}
 use Rattle.qf_log.specs.Reading.{Reading, olds_of}
 use Rattle.qf_log.specs.declared.places.ParamPlace.{ParamPlace}
@@ -47,3 +49,9 @@ is_point_of log case point olds sound ends least = record {
       ∙ (length-In case.domains.region case.plan.olds sound.inside ∙ (ap length olds ∙ as_many log.parameters));
   within = point_small case.domains.region point (ends (subst AreSmall (sym sound.olds) (are_small case.plan.olds sound.plan.small_olds))) least.inside;
 }
+
+-- the log of a story has few constants
+pub few_places : (story : Story) → IsSoundStory story → length story.log.parameters < 2 ^ 31
+few_places story sound =
+    let e : length story.program.olds ≡ length story.log.parameters = ap length sound.olds ∙ as_many story.log.parameters in
+    omega (arith, e, sound.program.few_params)

@@ -1,8 +1,7 @@
--- The answers of the commands: the bytes that are to be said with a status, once the files were read.
+-- The answers of the commands: what may be delivered, once the files were read.
 use Rattle.std.specs.Prelude.{◌≡◌, ℕ, ◌^◌, ℤ, nat_lt, min, List, [], ◌∷◌, Result, Ok, Err, if◌then◌else◌}
 use Rattle.std.specs.declared.option.Option.TheVariants.{Some, None}
 use lib.Chars.{codes}
-use Rattle.qf_base.specs.Refusal.{refusal_bytes}
 use Rattle.qf_base.specs.declared.refusal.Refusal.{Refusal}
 use Rattle.qf_base.specs.declared.refusal.Kind.TheVariants.{TooManyPoints}
 use Rattle.qf_base.specs.Values.{Bounds}
@@ -17,17 +16,25 @@ use Rattle.qf_inputs.specs.declared.story.Story.{Story}
 use Rattle.qf_ir.specs.Plan.{final_rows}
 use Rattle.qf_point.specs.Domains.{domains_from}
 use Rattle.qf_point.specs.Points.{point_count}
+use Rattle.qf_shell.specs.Promise.{refusal_answer}
+use Rattle.qf_shell.specs.declared.answer.Answer.{Answer}
 use Rattle.qf_splice.specs.Laws.{SaysWith}
 use Rattle.qf_splice.specs.RepairedText.{repaired_text}
 use Rattle.qf_table.specs.Printing.{table_text}
 use Rattle.qf_app.specs.Checking.{IsChecked}
 use Rattle.qf_app.specs.Parameters.{parameters_text}
-use Rattle.qf_app.specs.Request.{Request, diagnose, check, replay, params}
+use Rattle.qf_app.specs.Request.{Diagnosis, Request, diagnose, check, replay, params}
 
--- what is accepted is answered, and what is refused has its refusal's line
-abbrev pub or_refused : {A : Type 0} → (A → Status → List ℕ → Type 0) → Result A Refusal → Status → List ℕ → Type 0
-or_refused answers (Ok a) status line = answers a status line
-or_refused answers (Err refusal) status line = (status ≡ Refused) × (line ≡ refusal_bytes refusal)
+-- what is accepted is answered, and what is refused has its refusal
+abbrev pub or_refused : {A : Type 0} → (A → Answer → Type 0) → Result A Refusal → Answer → Type 0
+or_refused answers (Ok a) answer = answers a answer
+or_refused answers (Err refusal) answer = answer ≡ refusal_answer refusal
+
+-- a line is said with a status, and nothing is put
+pub record IsLine (status : Status) (line : List ℕ) (answer : Answer) : Type 0 where
+  pub status_is : answer.status ≡ status
+  pub files : answer.files ≡ []
+  pub line_is : answer.line ≡ line
 
 -- ---- `diagnose`
 
@@ -62,29 +69,36 @@ pub record SaysNone (opened : Opened) (line : List ℕ) : Type 0 where
   pub none : HasNoRepair opened.problem
   pub line_is : line ≡ codes "none\n"
 
-abbrev pub IsFound : List ℕ → Opened → Status → List ℕ → Type 0
-IsFound log opened Done line = SaysRepair log opened line
-IsFound log opened Nothing line = SaysNone opened line
-IsFound log opened Budget line = ⊥
-IsFound log opened Refused line = ⊥
-IsFound log opened ReadFault line = ⊥
-IsFound log opened WriteFault line = ⊥
-IsFound log opened NoMemory line = ⊥
-IsFound log opened Usage line = ⊥
-IsFound log opened Rejected line = ⊥
+abbrev pub IsFoundWith : List ℕ → Opened → Status → List ℕ → Type 0
+IsFoundWith log opened Done line = SaysRepair log opened line
+IsFoundWith log opened Nothing line = SaysNone opened line
+IsFoundWith log opened Budget line = ⊥
+IsFoundWith log opened Refused line = ⊥
+IsFoundWith log opened ReadFault line = ⊥
+IsFoundWith log opened WriteFault line = ⊥
+IsFoundWith log opened NoMemory line = ⊥
+IsFoundWith log opened Usage line = ⊥
+IsFoundWith log opened Rejected line = ⊥
 
-pub record IsDiagnosis (initial log complaints domains : List ℕ) (status : Status) (line : List ℕ) : Type 0 where
+-- the least repair or that there is none, and nothing is put
+pub record IsFound (log : List ℕ) (opened : Opened) (answer : Answer) : Type 0 where
+  pub found : IsFoundWith log opened answer.status answer.line
+  pub files : answer.files ≡ []
+
+-- The words give the most nodes that a search may have, and a name for its certificate. The points are tried one by one, so
+-- neither matters yet.
+pub record IsDiagnosis (words : Diagnosis) (initial log complaints domains : List ℕ) (answer : Answer) : Type 0 where
   pub asked : Result Opened Refusal
   pub is_asked : IsAsked initial log complaints domains asked
-  pub answer : or_refused (IsFound log) asked status line
+  pub answer_is : or_refused (IsFound log) asked answer
 
 -- ---- `check`
 
 -- what the certificate is for the problem of the four files, or their first refusal
-pub record IsCheck (initial log complaints domains certificate : List ℕ) (status : Status) (line : List ℕ) : Type 0 where
+pub record IsCheck (initial log complaints domains certificate : List ℕ) (answer : Answer) : Type 0 where
   pub opened : Result Opened Refusal
   pub is_question : IsQuestion initial log complaints domains opened
-  pub answer : or_refused (λ (o : Opened). IsChecked o.problem certificate) opened status line
+  pub answer_is : or_refused (λ (o : Opened). IsChecked o.problem certificate) opened answer
 
 -- ---- `replay`
 
@@ -107,42 +121,30 @@ pub record IsReplayed (initial log : List ℕ) (replayed : Result Story Refusal)
   pub replayed_is : replayed ≡ if_narrow story
 
 -- the final rows with the old constants
-abbrev pub IsFinalTable : Story → Status → List ℕ → Type 0
-IsFinalTable story status line =
-    (status ≡ Done)
-    × (line ≡ table_text story.program.columns story.program.texts (final_rows story.program story.table story.program.olds))
+abbrev pub IsFinalTable : Story → Answer → Type 0
+IsFinalTable story answer =
+    IsLine Done (table_text story.program.columns story.program.texts (final_rows story.program story.table story.program.olds)) answer
 
-pub record IsTable (initial log : List ℕ) (status : Status) (line : List ℕ) : Type 0 where
+pub record IsTable (initial log : List ℕ) (answer : Answer) : Type 0 where
   pub replayed : Result Story Refusal
   pub is_replayed : IsReplayed initial log replayed
-  pub answer : or_refused IsFinalTable replayed status line
+  pub answer_is : or_refused IsFinalTable replayed answer
 
 -- ---- `params`
 
-abbrev pub AreItsParameters : Story → Status → List ℕ → Type 0
-AreItsParameters story status line = (status ≡ Done) × (line ≡ parameters_text story.log.parameters)
+abbrev pub AreItsParameters : Story → Answer → Type 0
+AreItsParameters story answer = IsLine Done (parameters_text story.log.parameters) answer
 
-pub record AreParameters (initial log : List ℕ) (status : Status) (line : List ℕ) : Type 0 where
+pub record AreParameters (initial log : List ℕ) (answer : Answer) : Type 0 where
   pub story : Result Story Refusal
   pub is_story : IsStory initial log story
-  pub answer : or_refused AreItsParameters story status line
+  pub answer_is : or_refused AreItsParameters story answer
 
 -- ---- of each command, over its files in the order in which they are read
 
-abbrev pub over_two : (List ℕ → List ℕ → Status → List ℕ → Type 0) → List (List ℕ) → Status → List ℕ → Type 0
-over_two answers (a ∷ b ∷ []) status line = answers a b status line
-over_two answers _ status line = ⊥
-
-abbrev pub over_four : (List ℕ → List ℕ → List ℕ → List ℕ → Status → List ℕ → Type 0) → List (List ℕ) → Status → List ℕ → Type 0
-over_four answers (a ∷ b ∷ c ∷ d ∷ []) status line = answers a b c d status line
-over_four answers _ status line = ⊥
-
-abbrev pub over_five : (List ℕ → List ℕ → List ℕ → List ℕ → List ℕ → Status → List ℕ → Type 0) → List (List ℕ) → Status → List ℕ → Type 0
-over_five answers (a ∷ b ∷ c ∷ d ∷ e ∷ []) status line = answers a b c d e status line
-over_five answers _ status line = ⊥
-
-abbrev pub answers_of : Request → List (List ℕ) → Status → List ℕ → Type 0
-answers_of (diagnose d) files status line = over_four IsDiagnosis files status line
-answers_of (check c) files status line = over_five IsCheck files status line
-answers_of (replay story) files status line = over_two IsTable files status line
-answers_of (params story) files status line = over_two AreParameters files status line
+abbrev pub answers_of : Request → List (List ℕ) → Answer → Type 0
+answers_of (diagnose words) (initial ∷ log ∷ complaints ∷ domains ∷ []) answer = IsDiagnosis words initial log complaints domains answer
+answers_of (check words) (initial ∷ log ∷ complaints ∷ domains ∷ certificate ∷ []) answer = IsCheck initial log complaints domains certificate answer
+answers_of (replay words) (initial ∷ log ∷ []) answer = IsTable initial log answer
+answers_of (params words) (initial ∷ log ∷ []) answer = AreParameters initial log answer
+answers_of request files answer = ⊥

@@ -11,6 +11,7 @@ use Rattle.qf_check.specs.Judging.{verdict_of, Holds}
 use Rattle.qf_check.specs.declared.verdict.Verdict.{Verdict}
 use Rattle.qf_check.specs.declared.verdict.Verdict.TheVariants as verdict
 use Rattle.qf_goal.specs.Case.{Case}
+use Rattle.qf_shell.specs.declared.answer.Answer.{Answer}
 use Rattle.qf_instance.specs.Instances.{IsInstance}
 use Rattle.qf_tree.specs.Certificates.{Instance, IsValid, first_bad_line, at_least}
 use Rattle.qf_tree.specs.declared.cert.Cert.{Cert}
@@ -72,13 +73,18 @@ pub record IsUnread (bytes line : List ℕ) : Type 0 where
   pub is_fault : IsFaultOf bytes fault
   pub line_is : IsFaultLine fault line
 
-abbrev pub IsChecked : Case → List ℕ → Status → List ℕ → Type 0
-IsChecked case bytes status.Done line = IsAccepted case bytes line
-IsChecked case bytes status.Nothing line = ⊥
-IsChecked case bytes status.Budget line = ⊥
-IsChecked case bytes status.Refused line = ⊥
-IsChecked case bytes status.ReadFault line = ⊥
-IsChecked case bytes status.WriteFault line = ⊥
-IsChecked case bytes status.NoMemory line = ⊥
-IsChecked case bytes status.Usage line = ⊥
-IsChecked case bytes status.Rejected line = IsRejected case bytes line ⊎ IsUnread bytes line
+abbrev pub IsCheckedWith : Case → List ℕ → Status → List ℕ → Type 0
+IsCheckedWith case bytes status.Done line = IsAccepted case bytes line
+IsCheckedWith case bytes status.Nothing line = ⊥
+IsCheckedWith case bytes status.Budget line = ⊥
+IsCheckedWith case bytes status.Refused line = ⊥
+IsCheckedWith case bytes status.ReadFault line = ⊥
+IsCheckedWith case bytes status.WriteFault line = ⊥
+IsCheckedWith case bytes status.NoMemory line = ⊥
+IsCheckedWith case bytes status.Usage line = ⊥
+IsCheckedWith case bytes status.Rejected line = IsRejected case bytes line ⊎ IsUnread bytes line
+
+-- what it is for the problem is said, and nothing is put
+pub record IsChecked (case : Case) (bytes : List ℕ) (answer : Answer) : Type 0 where
+  pub checked : IsCheckedWith case bytes answer.status answer.line
+  pub files : answer.files ≡ []

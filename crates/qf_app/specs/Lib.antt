@@ -5,5 +5,5 @@ pub mod Findings
 pub mod Checking
 pub mod Answers
 pub mod Promise
-pub mod Laws
+pub mod Complete
 pub mod RequestExamples

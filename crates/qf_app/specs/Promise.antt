@@ -5,11 +5,11 @@ use Rattle.qf_base.specs.declared.status.Status.{Status}
 use Rattle.qf_base.specs.declared.status.Status.TheVariants.{Usage}
 use Rattle.qf_shell.specs.Promise.{CommandPromise}
 use Rattle.qf_app.specs.Answers.{answers_of}
-use Rattle.qf_app.specs.Request.{Request, request_of, input_words}
+use Rattle.qf_app.specs.Request.{Request, request_of, input_words, output_words}
 
 -- what a command promises that has a form
 abbrev pub Promise : Request → DeskState → DeskState → Status → Type 0
-Promise request old new status = CommandPromise (input_words request) (answers_of request) old new status
+Promise request old new status = CommandPromise (input_words request) (output_words request) (answers_of request) old new status
 
 -- without a form nothing is done
 abbrev pub by_request : Option Request → DeskState → DeskState → Status → Type 0

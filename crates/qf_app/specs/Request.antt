@@ -82,23 +82,45 @@ request_of (word ∷ initial ∷ log ∷ complaints ∷ domains ∷ budget ∷ c
     else None
 request_of words = None
 
--- ---- the files that a command reads, in this order, with their limits
+-- ---- the files that a command reads, in this order, with their numbers among the refusals and their limits
+
+abbrev pub initial_word : List ℕ → InputWord
+initial_word name = record { number = 1; name = name; most = 2 ^ 26 }
+
+abbrev pub log_word : List ℕ → InputWord
+log_word name = record { number = 2; name = name; most = 2 ^ 22 }
+
+abbrev pub complaints_word : List ℕ → InputWord
+complaints_word name = record { number = 3; name = name; most = 2 ^ 22 }
+
+abbrev pub domains_word : List ℕ → InputWord
+domains_word name = record { number = 4; name = name; most = 2 ^ 22 }
+
+-- a certificate is longer than what it is of
+abbrev pub certificate_word : List ℕ → InputWord
+certificate_word name = record { number = 5; name = name; most = 2 ^ 30 }
 
 abbrev pub story_words : Story → List InputWord
-story_words story =
-    record { name = story.initial; most = 2 ^ 26 } ∷ record { name = story.log; most = 2 ^ 22 } ∷ []
+story_words story = initial_word story.initial ∷ log_word story.log ∷ []
 
 abbrev pub question_words : Question → List InputWord
 question_words question =
-    record { name = question.story.initial; most = 2 ^ 26 } ∷ record { name = question.story.log; most = 2 ^ 22 }
-    ∷ record { name = question.complaints; most = 2 ^ 22 } ∷ record { name = question.domains; most = 2 ^ 22 } ∷ []
+    initial_word question.story.initial ∷ log_word question.story.log
+    ∷ complaints_word question.complaints ∷ domains_word question.domains ∷ []
 
--- a certificate is longer than what it is of
 abbrev pub checking_words : Checking → List InputWord
-checking_words c = question_words c.question ++ record { name = c.certificate; most = 2 ^ 30 } ∷ []
+checking_words c = question_words c.question ++ certificate_word c.certificate ∷ []
 
 abbrev pub input_words : Request → List InputWord
 input_words (diagnose d) = question_words d.question
 input_words (check c) = checking_words c
 input_words (replay story) = story_words story
 input_words (params story) = story_words story
+
+-- ---- the names under which a command may put files
+
+abbrev pub output_words : Request → List (List ℕ)
+output_words (diagnose d) = d.certificate ∷ []
+output_words (check c) = []
+output_words (replay story) = []
+output_words (params story) = []

@@ -1,8 +1,6 @@
-ghost use Rattle.std.specs.Prelude.{◌≡◌, ◌≤◌, ◌^◌, length, take, IfOk};
+ghost use Rattle.std.specs.Prelude.{◌≡◌, ◌≤◌, ◌^◌, [], length, take, IfOk};
 ghost use Rattle.std.specs.List.{AllByRecursion};
-ghost use Rattle.qf_base.specs.Refusal.{refusal_bytes};
-ghost use Rattle.qf_base.specs.declared.status.Status.TheVariants as status;
-ghost use Rattle.qf_app.specs.Answers.{answers_of};
+ghost use Rattle.qf_app.specs.Answers.{IsLine, answers_of};
 ghost use Rattle.qf_app.specs.Meaning.{meaning_of};
 ghost use Rattle.qf_app.specs.Request.{input_words};
 
@@ -10,19 +8,19 @@ use crate::checking::checked;
 use crate::command::Command;
 use crate::diagnosis::diagnosis;
 use crate::replaying::{listed, replayed};
-use qf_base::{List, NoMemory, Refusal, Status, refusal_line};
+use qf_base::{List, NoMemory, Status};
 use qf_shell::Answer;
 use std::alloc::Global;
 
-/// The answer that a refusal is.
-pub(crate) fn refusal_answer(alloc: Global, refusal: &Refusal) -> Result<Answer, NoMemory>
-    ensures status { IfOk result (λ a. a.status ≡ status.Refused) }
-    ensures line { IfOk result (λ a. a.line ≡ refusal_bytes refusal.now) }
+/// The answer that says a line with a status, and puts nothing.
+pub(crate) fn line_answer(alloc: Global, status: Status, line: List<u8>) -> Answer
+    ensures { IsLine status line result }
 {
-    Ok(Answer {
-        status: Status::Refused,
-        line: refusal_line(alloc, refusal)?,
-    })
+    Answer {
+        status,
+        files: List::new(alloc),
+        line,
+    }
 }
 
 /// The answer of a command to its files, in the order in which they are read. A fifth, the certificate, may be long.
@@ -33,11 +31,12 @@ pub(crate) fn answer_to(
 ) -> Result<Answer, NoMemory>
     requires count { length files.now ≡ length (input_words (meaning_of command.now)) }
     requires short { AllByRecursion (λ bytes. length bytes ≤ 2 ^ 26) (take 4 files.now) }
-    ensures answer { IfOk result (λ a. answers_of (meaning_of command.now) files.now a.status a.line) }
+    ensures { IfOk result (λ answer. answers_of (meaning_of command.now) files.now answer) }
 {
     match (command, files) {
-        (Command::Diagnose(_), [initial, log, complaints, domains]) => diagnosis(
+        (Command::Diagnose(words), [initial, log, complaints, domains]) => diagnosis(
             alloc,
+            words,
             initial.as_slice(),
             log.as_slice(),
             complaints.as_slice(),

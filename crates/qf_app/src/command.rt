@@ -17,14 +17,14 @@ const MOST_OTHER: u64 = 1 << 22;
 const MOST_CERTIFICATE: u64 = 1 << 30;
 
 /// The names of the files with the table and with its log.
-#[derive(Clone, Copy, Debug)]
+#[derive(Clone, Copy)]
 pub(crate) struct StoryNames<'a> {
     pub(crate) initial: &'a str,
     pub(crate) log: &'a str,
 }
 
 /// The names of the files of a question: the table, its log, the complaints and the domains.
-#[derive(Clone, Copy, Debug)]
+#[derive(Clone, Copy)]
 pub(crate) struct QuestionNames<'a> {
     pub(crate) story: StoryNames<'a>,
     pub(crate) complaints: &'a str,
@@ -33,7 +33,7 @@ pub(crate) struct QuestionNames<'a> {
 
 /// The names of the files that `diagnose` reads, the most nodes that a search may have, and the name under which the
 /// certificate is put, which no input has.
-#[derive(Clone, Copy, Debug)]
+#[derive(Clone, Copy)]
 pub(crate) struct Diagnose<'a> {
     pub(crate) question: QuestionNames<'a>,
     pub(crate) budget: u32,
@@ -41,14 +41,14 @@ pub(crate) struct Diagnose<'a> {
 }
 
 /// The names of the files that `check` reads, the certificate's among them.
-#[derive(Clone, Copy, Debug)]
+#[derive(Clone, Copy)]
 pub(crate) struct Check<'a> {
     pub(crate) question: QuestionNames<'a>,
     pub(crate) certificate: &'a str,
 }
 
 /// What the words behind the program's name ask for.
-#[derive(Clone, Copy, Debug)]
+#[derive(Clone, Copy)]
 pub(crate) enum Command<'a> {
     Diagnose(Diagnose<'a>),
     Check(Check<'a>),
@@ -77,18 +77,22 @@ impl QuestionNames<'_> {
             alloc,
             &[
                 Input {
+                    number: 1,
                     name: self.story.initial,
                     most: MOST_INITIAL,
                 },
                 Input {
+                    number: 2,
                     name: self.story.log,
                     most: MOST_OTHER,
                 },
                 Input {
+                    number: 3,
                     name: self.complaints,
                     most: MOST_OTHER,
                 },
                 Input {
+                    number: 4,
                     name: self.domains,
                     most: MOST_OTHER,
                 },
@@ -107,6 +111,7 @@ impl Command<'_> {
             Command::Check(c) => {
                 let mut inputs = c.question.inputs(alloc)?;
                 inputs.push(Input {
+                    number: 5,
                     name: c.certificate,
                     most: MOST_CERTIFICATE,
                 })?;
@@ -116,10 +121,12 @@ impl Command<'_> {
                 alloc,
                 &[
                     Input {
+                        number: 1,
                         name: story.initial,
                         most: MOST_INITIAL,
                     },
                     Input {
+                        number: 2,
                         name: story.log,
                         most: MOST_OTHER,
                     },

@@ -1,3 +1,4 @@
+ghost use Rattle.qf_app.specs.Complete.{RunIsComplete};
 ghost use Rattle.qf_app.specs.Promise.{RunPromise};
 
 use crate::command::command_of;
@@ -13,7 +14,8 @@ use std::alloc::Global;
 /// none costs less than this; or at which line it is rejected (`Rejected`). `replay INITIAL LOG` says the final table as CSV,
 /// and `params INITIAL LOG` the parameters of the log. Each says why the files are refused where they are (`Refused`).
 pub fn run<D: Desk>(alloc: Global, words: &List<Text>, desk: &mut D) -> Status
-    ensures { RunPromise words.now (D.state desk.old) (D.state desk.new) result }
+    ensures promise { RunPromise words.now (D.state desk.old) (D.state desk.new) result }
+    ensures complete { RunIsComplete words.now (D.state desk.old) (D.state desk.new) result }
 {
     match command_of(words) {
         None => Status::Usage,

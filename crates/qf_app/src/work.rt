@@ -4,10 +4,10 @@ ghost use Rattle.qf_app.specs.Promise.{Promise};
 use crate::answer::answer_to;
 use crate::command::Command;
 use qf_base::{Desk, NoMemory, Status};
-use qf_shell::{Answer, read_files, say, say_end};
+use qf_shell::{deliver, deliver_end, read_files};
 use std::alloc::Global;
 
-/// Does what the command asks for: reads its files in their order, and says the answer to them.
+/// Does what the command asks for: reads its files in their order, and delivers the answer to them.
 pub(crate) fn work<D: Desk>(alloc: Global, command: &Command<'_>, desk: &mut D) -> Status
     ensures { Promise (meaning_of command.now) (D.state desk.old) (D.state desk.new) result }
 {
@@ -17,10 +17,10 @@ pub(crate) fn work<D: Desk>(alloc: Global, command: &Command<'_>, desk: &mut D) 
     };
     let files = match read_files(alloc, inputs.as_slice(), desk) {
         Ok(files) => files,
-        Err(end) => return say_end(alloc, end, desk),
+        Err(end) => return deliver_end(alloc, end, desk),
     };
     match answer_to(alloc, command, files.as_slice()) {
-        Ok(Answer { status, line }) => say(alloc, status, &line, desk),
+        Ok(answer) => deliver(alloc, &answer, desk),
         Err(NoMemory) => Status::NoMemory,
     }
 }

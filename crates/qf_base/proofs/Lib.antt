@@ -1,3 +1,4 @@
 pub mod Pieces
 pub mod Integers
 pub mod BoxLaws
+pub mod Growing

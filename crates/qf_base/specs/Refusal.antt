@@ -4,7 +4,7 @@ use Rattle.std.specs.Fmt.{decimal}
 use lib.Chars.{codes}
 use Rattle.qf_base.specs.declared.refusal.Refusal.{Refusal}
 use Rattle.qf_base.specs.declared.refusal.Kind.{Kind}
-use Rattle.qf_base.specs.declared.refusal.Kind.TheVariants.{TooLong, NoHeader, TooManyColumns, BadName, RepeatedName, TooManyRows, Uneven, BadNumber, BadText, BadByte, OpenString, NumberTooBig, BadSyntax, NotLinear, BigCoefficient, OtherTable, UnknownColumn, WrongType, RepeatedColumn, MissingColumn, TooMany, UnevenDomain, BadDomain, UnknownParam, RepeatedParam, Empty, TooLarge, MissesOld, Wide, BadJson, BadComplaint, TooManyComplaints, UnknownRow, RepeatedRow, ComplaintColumn, ComplaintType, TooManyFree, NotBuilt, TooManyPoints}
+use Rattle.qf_base.specs.declared.refusal.Kind.TheVariants.{TooLong, NoHeader, TooManyColumns, BadName, RepeatedName, TooManyRows, Uneven, BadNumber, BadText, BadByte, OpenString, NumberTooBig, BadSyntax, NotLinear, BigCoefficient, OtherTable, UnknownColumn, WrongType, RepeatedColumn, MissingColumn, TooMany, UnevenDomain, BadDomain, UnknownParam, RepeatedParam, Empty, TooLarge, MissesOld, Wide, BadJson, BadComplaint, TooManyComplaints, UnknownRow, RepeatedRow, ComplaintColumn, ComplaintType, TooManyFree, TooManyPoints}
 
 abbrev pub kind_name : Kind → List ℕ
 kind_name TooLong = codes "TooLong"
@@ -44,7 +44,6 @@ kind_name RepeatedRow = codes "RepeatedRow"
 kind_name ComplaintColumn = codes "ComplaintColumn"
 kind_name ComplaintType = codes "ComplaintType"
 kind_name TooManyFree = codes "TooManyFree"
-kind_name NotBuilt = codes "NotBuilt"
 kind_name TooManyPoints = codes "TooManyPoints"
 
 -- a space and a number for a place

@@ -1,10 +1,11 @@
-ghost use Rattle.std.specs.Prelude.{◌≡◌, ◌<◌, ◌≤◌, length, IfOk, OnErr, IsErrOf};
+ghost use Rattle.std.specs.Prelude.{◌≡◌, ◌<◌, ◌≤◌, [], length, IfOk, IsErrOf};
 ghost use Rattle.qf_base.specs.Desk.{Rose};
 
+use crate::read_log::ReadLog;
+use crate::streams::{failed, read_all, write_all};
 use crate::{Desk, DeskFault, List, Text};
 use std::alloc::Global;
 use std::fs;
-use std::io::{Read, Write};
 use std::rt::Files;
 
 /// The files and the standard output of a runtime: the trusted edge. It tells nothing of their content, and one number
@@ -15,70 +16,24 @@ pub struct FileDesk<R: Files + Print + Drop> {
     rt: R,
     faults: u64,
     made: Vec<(Text, R::File)>,
+    log: ReadLog,
 }
 
 impl<R: Files + Print + Drop> FileDesk<R> {
-    /// A desk over the runtime, which it keeps.
-    pub fn new(alloc: Global, rt: R) -> FileDesk<R> {
+    ghost use Rattle.qf_base.specs.Desk.{untold};
+    ghost use Rattle.qf_base.specs.Desks.{file_state};
+
+    /// A desk over the runtime, which it keeps. It has read nothing, and no call failed.
+    pub fn new(alloc: Global, rt: R) -> FileDesk<R>
+        ensures { file_state result ≡ untold 0 [] }
+    {
         FileDesk {
             rt,
             faults: 0,
             made: Vec::new(alloc),
+            log: ReadLog::new(),
         }
     }
-}
-
-// Counts a fault.
-fn failed(faults: &mut u64) -> DeskFault
-    ensures fault { result ≡ DeskFault.Failed }
-    ensures rose { Rose faults.old faults.new }
-    ensures later { faults.old ≤ faults.new }
-{
-    *faults = faults.saturating_add(1);
-    DeskFault::Failed
-}
-
-// The bytes that are left of a file, if they are at most so many.
-fn read_all<F: Read>(
-    alloc: Global,
-    file: &mut F,
-    most: u64,
-    faults: &mut u64,
-) -> Result<List<u8>, DeskFault>
-    ensures within { IfOk result (λ bytes. length bytes ≤ most) }
-    ensures failed { IsErrOf result DeskFault.Failed → Rose faults.old faults.new }
-    ensures later { faults.old ≤ faults.new }
-{
-    let mut bytes = List::new(alloc);
-    let mut buffer = [0; 4096];
-    loop {
-        let Ok(count) = file.read(&mut buffer) else {
-            return Err(failed(faults));
-        };
-        if count == 0 {
-            return Ok(bytes);
-        }
-        if count as u64 > most - bytes.len() {
-            return Err(DeskFault::TooLong);
-        }
-        bytes.extend(&buffer[..count])?;
-    }
-}
-
-// Writes all of the piece.
-fn write_all<F: Write>(file: &mut F, piece: &[u8], faults: &mut u64) -> Result<(), DeskFault>
-    ensures failed { OnErr result (Rose faults.old faults.new) }
-    ensures fault { OnErr result (IsErrOf result DeskFault.Failed) }
-    ensures later { faults.old ≤ faults.new }
-{
-    let mut rest = piece;
-    while !rest.is_empty() {
-        match file.write(rest) {
-            Ok(count) if count > 0 => rest = &rest[count..],
-            _ => return Err(failed(faults)),
-        }
-    }
-    Ok(())
 }
 
 impl<R: Files + Print + Drop> FileDesk<R> {
@@ -88,6 +43,7 @@ impl<R: Files + Print + Drop> FileDesk<R> {
         ensures long { IsErrOf result DeskFault.TooLong → ⊥ }
         ensures failed { IsErrOf result DeskFault.Failed → Rose self.old.faults self.new.faults }
         ensures later { self.old.faults ≤ self.new.faults }
+        ensures log { self.new.log ≡ self.old.log }
     {
         if let Some(place) = self.made.iter().position(|entry| entry.0.as_str() == name) {
             return Ok(place);
@@ -105,15 +61,17 @@ impl<R: Files + Print + Drop> FileDesk<R> {
 }
 
 impl<R: Files + Print + Drop> Desk for FileDesk<R> {
-    ghost use Rattle.qf_base.specs.Desk.{untold};
+    ghost use Rattle.qf_base.specs.Desks.{file_state};
 
-    ghost state = { λ desk. untold desk.faults };
+    ghost state = { file_state };
 
     fn read(&mut self, alloc: Global, name: &str, most: u64) -> Result<List<u8>, DeskFault> {
-        match fs::open(&self.rt, name) {
-            Ok(mut file) => read_all(alloc, &mut file, most, &mut self.faults),
-            Err(_) => Err(failed(&mut self.faults)),
-        }
+        let bytes = match fs::open(&self.rt, name) {
+            Ok(mut file) => read_all(alloc, &mut file, most, &mut self.faults)?,
+            Err(_) => return Err(failed(&mut self.faults)),
+        };
+        self.log.note(name.as_bytes(), bytes.as_slice());
+        Ok(bytes)
     }
 
     fn put(&mut self, alloc: Global, name: &str, piece: &[u8]) -> Result<(), DeskFault> {

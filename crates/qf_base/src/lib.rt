@@ -10,8 +10,10 @@ mod memory_desk;
 mod names;
 mod params;
 mod point;
+mod read_log;
 mod refusal;
 mod status;
+pub mod streams;
 mod sure_desk;
 mod text;
 

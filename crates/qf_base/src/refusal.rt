@@ -6,7 +6,7 @@ use std::alloc::Global;
 use std::fmt;
 
 /// What a refusal is of. Each name stands in the refusal's line as it stands here.
-#[derive(Clone, Copy, Debug, PartialEq, Eq)]
+#[derive(Clone, Copy, PartialEq, Eq)]
 pub enum Kind {
     TooLong,
     NoHeader,
@@ -45,13 +45,12 @@ pub enum Kind {
     ComplaintColumn,
     ComplaintType,
     TooManyFree,
-    NotBuilt,
     TooManyPoints,
 }
 
 /// Why an input is refused, with up to two places: a file's number, a byte's offset from 0, or the number of a
 /// statement, record, column, parameter or complaint, which count from 1. A second place has a first one before it.
-#[derive(Clone, Copy, Debug, PartialEq, Eq)]
+#[derive(Clone, Copy, PartialEq, Eq)]
 pub struct Refusal {
     pub kind: Kind,
     pub first: Option<u64>,
@@ -136,7 +135,6 @@ impl Kind {
             Kind::ComplaintColumn => "ComplaintColumn",
             Kind::ComplaintType => "ComplaintType",
             Kind::TooManyFree => "TooManyFree",
-            Kind::NotBuilt => "NotBuilt",
             Kind::TooManyPoints => "TooManyPoints",
         }
     }

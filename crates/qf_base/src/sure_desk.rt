@@ -2,6 +2,7 @@ ghost use Rattle.std.specs.Prelude.{◌≡◌, [], List, ℕ, Some, IsTrue};
 ghost use Rattle.qf_base.specs.Memory.{bytes_or_none, has_distinct_names};
 
 use crate::entries::Entries;
+use crate::read_log::ReadLog;
 use crate::{Desk, DeskFault, List, Text};
 use std::alloc::Global;
 
@@ -11,6 +12,7 @@ pub struct SureDesk {
     files: Entries,
     made: Entries,
     said: List<u8>,
+    log: ReadLog,
 }
 
 impl SureDesk {
@@ -22,11 +24,13 @@ impl SureDesk {
         ensures held { (name : List ℕ) → (sure_state result).held name ≡ Some (bytes_or_none files name) }
         ensures made { (name : List ℕ) → (sure_state result).made name ≡ Some [] }
         ensures said { (sure_state result).said ≡ Some [] }
+        ensures was_read { (sure_state result).was_read ≡ [] }
     {
         SureDesk {
             files: Entries::from_list(files),
             made: Entries::new(alloc),
             said: List::new(alloc),
+            log: ReadLog::new(),
         }
     }
 
@@ -55,15 +59,17 @@ impl Desk for SureDesk {
     ghost state = { sure_state };
 
     fn read(&mut self, alloc: Global, name: &str, most: u64) -> Result<List<u8>, DeskFault> {
-        match self.files.bytes(name) {
-            Some(bytes) => {
-                if bytes.len() > most {
+        let bytes = match self.files.bytes(name) {
+            Some(held) => {
+                if held.len() > most {
                     return Err(DeskFault::TooLong);
                 }
-                Ok(List::from_slice(alloc, bytes.as_slice())?)
+                List::from_slice(alloc, held.as_slice())?
             }
-            None => Ok(List::new(alloc)),
-        }
+            None => List::new(alloc),
+        };
+        self.log.note(name.as_bytes(), bytes.as_slice());
+        Ok(bytes)
     }
 
     fn put(&mut self, alloc: Global, name: &str, piece: &[u8]) -> Result<(), DeskFault> {

@@ -15,7 +15,8 @@ use Rattle.qf_inputs.specs.Refusals.{told}
 use Rattle.qf_inputs.specs.Story.{IsLog, with_table, table_in}
 use Rattle.qf_inputs.specs.Inputs.{with_story}
 use Rattle.qf_inputs.specs.Opened.{IsOpenedBy, opened_with}
-use Rattle.qf_inputs.specs.Laws.{LogsAreOne, StoriesAreOne, InputsAreOne, QuestionsAreOne, EachHasAStory}
+use Rattle.qf_inputs.proofs.RootBoxes.{each_has_a_root_box}
+use Rattle.qf_inputs.specs.Laws.{LogsAreOne, StoriesAreOne, InputsAreOne, QuestionsAreOne, EachHasAStory, EachHasAQuestion}
 use Rattle.qf_inputs.specs.declared.story.Story.{Story}
 use Rattle.qf_inputs.specs.declared.inputs.Inputs.{Inputs}
 use Rattle.qf_inputs.specs.declared.opened.Opened.{Opened}
@@ -86,3 +87,18 @@ pub each_has_a_story : EachHasAStory
 each_has_a_story initial log =
     let read = each_log_is_read log in
     (with_table (table_in initial) read.0, record { reading = read.0; reading_is = read.1; story_is = refl })
+
+-- ---- four files ask something
+
+opened_for : (inputs : Result Inputs Refusal) → (opened : Result Opened Refusal) × IsOpenedBy inputs opened
+opened_for (Err r) = (Err r, refl)
+opened_for (Ok inputs) =
+    let root = each_has_a_root_box inputs.problem in
+    (opened_with inputs root.0, record { root = root.0; is_root = root.1; opened_is = refl })
+
+pub each_has_a_question : EachHasAQuestion
+each_has_a_question initial log complaints domains =
+    let story = each_has_a_story initial log in
+    let inputs = with_story story.0 complaints domains in
+    let opened = opened_for inputs in
+    (opened.0, record { inputs = inputs; are_inputs = record { story = story.0; story_is = story.1; inputs_is = refl }; is_opened = opened.1 })

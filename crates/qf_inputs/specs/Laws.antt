@@ -28,3 +28,7 @@ QuestionsAreOne = (initial log complaints domains : List ℕ) → IsOne (Result 
 -- every table and every log has a story or a first refusal
 abbrev pub EachHasAStory : Type 0
 EachHasAStory = (initial log : List ℕ) → (story : Result Story Refusal) × IsStory initial log story
+
+-- .. any four files a question or a first refusal
+abbrev pub EachHasAQuestion : Type 0
+EachHasAQuestion = (initial log complaints domains : List ℕ) → (opened : Result Opened Refusal) × IsQuestion initial log complaints domains opened

@@ -4,7 +4,7 @@ ghost use Rattle.qf_forms.specs.Complaints as forms;
 ghost use Rattle.qf_forms.specs.Faults as faults;
 ghost use Rattle.qf_forms.specs.Stated.{StatesNamesOnce, StatesSmallNumbers};
 ghost use Rattle.qf_ir.specs.Plan.{Fits};
-ghost use Rattle.qf_inputs.specs.Inputs.{AreInputs, with_complaints, with_story};
+ghost use Rattle.qf_inputs.specs.Inputs.{AreInputs, with_complaints, with_domains, with_story};
 ghost use Rattle.qf_inputs.specs.Known.{IsSoundStory, AreOf};
 ghost use Rattle.qf_inputs.specs.Refusals.{or_refusal};
 ghost use Rattle.qf_log.specs.Reading.{olds_of};
@@ -46,6 +46,59 @@ fn complaints_in(alloc: Global, bytes: &[u8]) -> Result<Result<List<Complaint>, 
     }
 }
 
+// The complaints in these bytes, unless a statement of the story is too wide for the domains.
+fn complaints_within(
+    alloc: Global,
+    story: &Story,
+    domains: &Domains,
+    complaints: &[u8],
+) -> Result<Result<List<Complaint>, Refusal>, NoMemory>
+    requires sound { IsSoundStory story.now }
+    requires complaints { length complaints.now < 2 ^ 30 }
+    ensures asked { IfOk result (λ asked. IfOk asked (λ cs. with_domains story.now complaints.now (Ok domains.now) ≡ with_complaints story.now domains.now (Ok cs))) }
+    ensures refused { IfOk result (λ asked. IfErr asked (λ refusal. with_domains story.now complaints.now (Ok domains.now) ≡ Err refusal)) }
+    ensures fits { IfOk result (λ asked. IfOk asked (λ cs. Fits story.now.program story.now.table domains.now.region)) }
+    ensures names { IfOk result (λ asked. IfOk asked (λ cs. AllByRecursion StatesNamesOnce cs)) }
+    ensures numbers { IfOk result (λ asked. IfOk asked (λ cs. AllByRecursion StatesSmallNumbers cs)) }
+{
+    if let Err(refusal) = widths_within(alloc, &story.program, &story.table, domains)? {
+        return Ok(Err(refusal));
+    }
+    complaints_in(alloc, complaints)
+}
+
+// What the complaints in these bytes ask within the domains. Domains that are refused are let go by one call.
+fn asked_within(
+    alloc: Global,
+    story: &Story,
+    domains: Domains,
+    complaints: &[u8],
+) -> Result<Result<Asked, Refusal>, NoMemory>
+    requires sound { IsSoundStory story.now }
+    requires complaints { length complaints.now < 2 ^ 30 }
+    ensures asked { IfOk result (λ asked. IfOk asked (λ a. with_domains story.now complaints.now (Ok domains) ≡ with_complaints story.now domains (Ok a.complaints))) }
+    ensures refused { IfOk result (λ asked. IfErr asked (λ refusal. with_domains story.now complaints.now (Ok domains) ≡ Err refusal)) }
+    ensures domains { IfOk result (λ asked. IfOk asked (λ a. a.domains ≡ domains)) }
+    ensures fits { IfOk result (λ asked. IfOk asked (λ a. Fits story.now.program story.now.table domains.region)) }
+    ensures names { IfOk result (λ asked. IfOk asked (λ a. AllByRecursion StatesNamesOnce a.complaints)) }
+    ensures numbers { IfOk result (λ asked. IfOk asked (λ a. AllByRecursion StatesSmallNumbers a.complaints)) }
+{
+    match complaints_within(alloc, story, &domains, complaints) {
+        Ok(Ok(complaints)) => Ok(Ok(Asked {
+            domains,
+            complaints,
+        })),
+        Ok(Err(refusal)) => {
+            drop(domains);
+            Ok(Err(refusal))
+        }
+        Err(memory) => {
+            drop(domains);
+            Err(memory)
+        }
+    }
+}
+
 // What the complaints and the domains in these bytes ask of a story, unless a statement is too wide for the domains.
 fn asked_of(
     alloc: Global,
@@ -63,18 +116,8 @@ fn asked_of(
     ensures names { IfOk result (λ asked. IfOk asked (λ a. AllByRecursion StatesNamesOnce a.complaints)) }
     ensures numbers { IfOk result (λ asked. IfOk asked (λ a. AllByRecursion StatesSmallNumbers a.complaints)) }
 {
-    let domains = match domains_in(alloc, story.program.olds(), domains)? {
-        Ok(domains) => domains,
-        Err(refusal) => return Ok(Err(refusal)),
-    };
-    if let Err(refusal) = widths_within(alloc, &story.program, &story.table, &domains)? {
-        return Ok(Err(refusal));
-    }
-    match complaints_in(alloc, complaints)? {
-        Ok(complaints) => Ok(Ok(Asked {
-            domains,
-            complaints,
-        })),
+    match domains_in(alloc, story.program.olds(), domains)? {
+        Ok(domains) => asked_within(alloc, story, domains, complaints),
         Err(refusal) => Ok(Err(refusal)),
     }
 }

@@ -1,4 +1,4 @@
-ghost use Rattle.qf_inputs.specs.Laws.{EachHasAStory, StoriesAreOne, InputsAreOne, QuestionsAreOne};
+ghost use Rattle.qf_inputs.specs.Laws.{EachHasAStory, EachHasAQuestion, StoriesAreOne, InputsAreOne, QuestionsAreOne};
 
 /// A table and a log say one story, or have one first refusal. Like the other laws it holds of the definitions, and the call
 /// does nothing.
@@ -19,4 +19,9 @@ pub fn inputs_are_one()
 /// .. and put one question, or have one first refusal.
 pub fn questions_are_one()
     ensures { QuestionsAreOne }
+{}
+
+/// .. and any four files put a question or have a first refusal.
+pub fn each_has_a_question()
+    ensures { EachHasAQuestion }
 {}

@@ -10,6 +10,8 @@ mod story;
 
 pub use domains::widths_within;
 pub use inputs::{Inputs, read_inputs};
-pub use laws::{each_has_a_story, inputs_are_one, questions_are_one, stories_are_one};
+pub use laws::{
+    each_has_a_question, each_has_a_story, inputs_are_one, questions_are_one, stories_are_one,
+};
 pub use opened::{Opened, read_question};
 pub use story::{Story, read_story};

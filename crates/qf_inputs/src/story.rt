@@ -1,20 +1,21 @@
 ghost use Rattle.std.specs.Prelude.{◌≡◌, ◌<◌, ◌^◌, length, IfOk, Ok};
 ghost use Rattle.qf_ir.specs.Plan.{IsSound, Belongs};
 ghost use Rattle.qf_ir.specs.Tables.{IsSoundTable};
+ghost use Rattle.qf_lex.specs.Tokens.{TokensOf};
 ghost use Rattle.qf_log.specs.Reading.{IsLogOf};
 ghost use Rattle.qf_inputs.specs.Story.{IsLog, IsStory, plan_of, table_in, with_log};
 ghost use Rattle.qf_inputs.specs.Known.{IsSoundStory};
 
 use crate::refusal::refused;
-use qf_base::{NoMemory, Refusal};
+use qf_base::{List, NoMemory, Refusal};
 use qf_ir::{Program, Table};
-use qf_lex::tokens;
+use qf_lex::{Token, tokens};
 use qf_log::{Log, parse};
 use qf_table::read_table;
 use std::alloc::Global;
 
 /// A table, the log that ran on it, and the log as a program over the table.
-#[derive(Debug, Drop)]
+#[derive(Drop)]
 pub struct Story {
     pub table: Table,
     pub log: Log,
@@ -32,16 +33,28 @@ fn table_of(alloc: Global, bytes: &[u8]) -> Result<Result<Table, Refusal>, NoMem
     }
 }
 
+// The log of these tokens of the bytes.
+fn log_with(
+    alloc: Global,
+    bytes: &[u8],
+    tokens: &List<Token>,
+) -> Result<Result<Log, Refusal>, NoMemory>
+    requires tokens { TokensOf bytes.now tokens.now }
+    requires bytes { length bytes.now < 2 ^ 30 }
+    ensures { IfOk result (λ log. IsLog bytes.now log) }
+{
+    match parse(alloc, bytes, tokens) {
+        Ok(log) => Ok(Ok(log)),
+        Err(fault) => Ok(Err(refused(fault.refusal())?)),
+    }
+}
+
 fn log_of(alloc: Global, bytes: &[u8]) -> Result<Result<Log, Refusal>, NoMemory>
     requires { length bytes.now < 2 ^ 30 }
     ensures { IfOk result (λ log. IsLog bytes.now log) }
 {
-    let tokens = match tokens(alloc, bytes) {
-        Ok(tokens) => tokens,
-        Err(fault) => return Ok(Err(refused(fault.refusal())?)),
-    };
-    match parse(alloc, bytes, &tokens) {
-        Ok(log) => Ok(Ok(log)),
+    match tokens(alloc, bytes) {
+        Ok(tokens) => log_with(alloc, bytes, &tokens),
         Err(fault) => Ok(Err(refused(fault.refusal())?)),
     }
 }

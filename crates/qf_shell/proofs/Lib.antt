@@ -1,3 +1,4 @@
+pub mod Putting
 pub mod InOrder
 pub mod Promises
 pub mod Completing

@@ -1,10 +1,10 @@
--- What is said of files that were not all read.
+-- What is delivered where the files were not all read.
 use Rattle.std.specs.Prelude.{◌≡◌, ◌⊎◌}
 use Rattle.qf_base.specs.Desk.{DeskState}
-use Rattle.qf_base.specs.Refusal.{refusal_bytes}
 use Rattle.qf_base.specs.declared.status.Status.{Status}
 use Rattle.qf_base.specs.declared.status.Status.TheVariants as status
-use Rattle.qf_shell.specs.Promise.{Says, too_long}
+use Rattle.qf_shell.specs.Delivery.{Delivers}
+use Rattle.qf_shell.specs.Promise.{refusal_answer, too_long}
 use Rattle.qf_shell.specs.declared.files.ReadEnd.{ReadEnd}
 use Rattle.qf_shell.specs.declared.files.ReadEnd.TheVariants.{TooLong, Failed, NoMemory}
 
@@ -12,8 +12,8 @@ use Rattle.qf_shell.specs.declared.files.ReadEnd.TheVariants.{TooLong, Failed, N
 abbrev pub Quietly : Status → DeskState → DeskState → Status → Type 0
 Quietly wanted old new result = (result ≡ wanted) × (new ≡ old)
 
-abbrev pub SaysEnd : ReadEnd → DeskState → DeskState → Status → Type 0
-SaysEnd (TooLong number) old new result =
-    Says status.Refused (refusal_bytes (too_long number)) old new result ⊎ Quietly status.NoMemory old new result
-SaysEnd Failed old new result = Quietly status.ReadFault old new result
-SaysEnd NoMemory old new result = Quietly status.NoMemory old new result
+abbrev pub DeliversEnd : ReadEnd → DeskState → DeskState → Status → Type 0
+DeliversEnd (TooLong number) old new result =
+    Delivers (refusal_answer (too_long number)) old new result ⊎ Quietly status.NoMemory old new result
+DeliversEnd Failed old new result = Quietly status.ReadFault old new result
+DeliversEnd NoMemory old new result = Quietly status.NoMemory old new result

@@ -1,3 +1,4 @@
+pub mod Delivery
 pub mod Inputs
 pub mod Promise
 pub mod Ends

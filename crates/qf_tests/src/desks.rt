@@ -1,6 +1,6 @@
-//! Desks in memory, call by call.
+//! A desk in memory, call by call.
 
-use qf_base::{Desk, DeskFault, List, MemoryDesk, SureDesk, Text, have_distinct_names};
+use qf_base::{Desk, DeskFault, List, MemoryDesk, Text, have_distinct_names};
 use std::alloc::Global;
 use std::test::Fail;
 
@@ -25,22 +25,5 @@ fn memory_desk_fails_by_number(rt: HostRuntime) -> Result<(), Fail> {
     assert_eq!(rt; desk.put_bytes("b"), b"xyzpq".as_slice());
     assert!(rt; matches!(desk.say(alloc, b"done"), Err(DeskFault::Failed)));
     assert_eq!(rt; desk.said_bytes(), b"do".as_slice());
-    Ok(())
-}
-
-#[test]
-fn sure_desk_reads_a_missing_name_as_no_bytes(rt: HostRuntime) -> Result<(), Fail> {
-    let alloc = rt.alloc();
-    let files = one_file(alloc, "a", b"abcd")?;
-    assert!(rt; have_distinct_names(files.as_slice()));
-    let mut desk = SureDesk::new(alloc, files);
-    let held = desk.read(alloc, "a", 9).ok().ok_or("the file is read")?;
-    assert_eq!(rt; held.as_slice(), b"abcd".as_slice());
-    let none = desk.read(alloc, "z", 9).ok().ok_or("no bytes are read")?;
-    assert_eq!(rt; none.len(), 0);
-    assert!(rt; matches!(desk.put(alloc, "b", b"xyz"), Ok(())));
-    assert!(rt; matches!(desk.say(alloc, b"done"), Ok(())));
-    assert_eq!(rt; desk.put_bytes("b"), b"xyz".as_slice());
-    assert_eq!(rt; desk.said_bytes(), b"done".as_slice());
     Ok(())
 }

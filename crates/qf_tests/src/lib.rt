@@ -1,11 +1,13 @@
-//! Tests that run the crates on worked examples, from outside. The library itself has nothing.
+//! Tests of what no clause says and no row of data shows, from outside. The library itself has nothing.
 #![tactic(auto)]
 
+#[cfg(test)]
+mod boards;
 #[cfg(test)]
 mod checking;
 #[cfg(test)]
 mod desks;
 #[cfg(test)]
-mod lex;
-#[cfg(test)]
 mod runs;
+#[cfg(test)]
+mod streams;

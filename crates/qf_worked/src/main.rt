@@ -1,12 +1,14 @@
 //! Runs the program's work on the rows of files, and says which of them come out otherwise than they state. README.md beside
-//! the files tells the form of the rows.
+//! the files tells the form of the rows. Then puts files of its own, and reads them back.
 #![tactic(auto)]
 
 mod escapes;
+mod files;
 mod report;
 mod row;
 mod running;
 
+use crate::files::deliver_and_read;
 use crate::report::reported;
 use qf_base::{Desk, DeskFault, FileDesk, List, NoMemory, Status};
 use std::alloc::Global;
@@ -34,14 +36,14 @@ fn main(rt: HostRuntime) -> ExitCode {
     ExitCode::from(status.code())
 }
 
-// Reads and runs the rows of each file, and says the reports.
+// Reads and runs the rows of each file, and says the reports; then puts files and reads them back.
 fn work<D: Desk>(alloc: Global, desk: &mut D) -> Status {
     for file in FILES {
         if let Err(status) = run_file(alloc, desk, file) {
             return status;
         }
     }
-    Status::Done
+    deliver_and_read(alloc, desk).unwrap_or(Status::NoMemory)
 }
 
 // Reads and runs the rows of a file, and says the report; else the status of the run that a fault ends.

@@ -6,7 +6,7 @@ use qf_base::{List, NoMemory, Text};
 use std::alloc::Global;
 
 /// Why a line can't be taken: it is not understood, or memory was wanting.
-#[derive(Clone, Copy, Debug)]
+#[derive(Clone, Copy)]
 pub enum Fault {
     Unknown,
     NoMemory,

@@ -3,8 +3,8 @@ use Rattle.qf_inputs.specs.Refusals.{told}
 use Rattle.qf_inputs.proofs.Faults.{lex_fault_is}
 use Rattle.qf_inputs.proofs.story.log_of.Goals as goal
 
-pub returns-in-Err : goal.returns-in-Err
-returns-in-Err c =
+pub returns-in_ok-refused-in-Err : goal.returns-in_ok-refused-in-Err
+returns-in_ok-refused-in-Err c =
     let e = c.in_ok-refused-in-Err.ensures in
     inl (record {
       fault = c.in-Err.fault;
