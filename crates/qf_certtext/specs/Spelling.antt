@@ -26,9 +26,14 @@ answer_words Nothing = codes "none" ∷ []
 answer_words Budget = codes "budget" ∷ []
 answer_words (Best p) = codes "best" ∷ map signed_decimal p
 
+-- a bound's side and its number
+abbrev pub bound_parts : Bound → List ℕ × ℤ
+bound_parts (Low least) = (codes "ge", least)
+bound_parts (High most) = (codes "le", most)
+
 abbrev pub bound_words : ℕ → ℕ → Bound → List (List ℕ)
-bound_words inequality var (Low least) = codes "ge" ∷ decimal inequality ∷ decimal var ∷ signed_decimal least ∷ []
-bound_words inequality var (High most) = codes "le" ∷ decimal inequality ∷ decimal var ∷ signed_decimal most ∷ []
+bound_words inequality var bound =
+    (bound_parts bound).0 ∷ decimal inequality ∷ decimal var ∷ signed_decimal (bound_parts bound).1 ∷ []
 
 abbrev pub line_words : Line → List (List ℕ)
 line_words line.Head = codes "qfix-cert" ∷ codes "1" ∷ []

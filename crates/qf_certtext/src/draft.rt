@@ -10,7 +10,7 @@ use qf_tree::{Answer, Cert, Line, Node, Tree};
 use std::alloc::Global;
 
 /// What the lines so far say, and which may stand next.
-#[derive(Debug, Drop)]
+#[derive(Drop)]
 pub enum Draft {
     /// Nothing: the head comes.
     Head,

@@ -3,7 +3,7 @@ ghost use Rattle.std.specs.Prelude.{◌≡◌};
 use qf_base::NoMemory;
 
 /// Why bytes are no certificate's text. Lines count from 1.
-#[derive(Clone, Copy, Debug, PartialEq, Eq, Drop)]
+#[derive(Clone, Copy, PartialEq, Eq, Drop)]
 pub enum CertFault {
     /// The first whole line that is no line that may stand there.
     BadLine(u64),

@@ -121,6 +121,7 @@ fn first_word(bytes: &[u8]) -> (&[u8], Option<&[u8]>)
     }
 }
 
+#[tactic(auto, using(crate::proofs::Values::one_more_value, crate::proofs::Values::no_value))]
 fn read_values(alloc: Global, rest: Option<&[u8]>) -> Result<Option<List<i64>>, NoMemory>
     ensures { IfOk result (λ values. values ≡ values_of_words (words_behind (option_map (λ bytes. bytes.now) rest.entry))) }
 {

@@ -18,9 +18,16 @@ fn after_bytes(alloc: Global, draft: Draft, bytes: &[u8]) -> Result<Option<Draft
     requires { HasRoom draft }
     ensures { IfOk result (λ next. next ≡ option_and_then (draft_after draft) (line_of_words (words_of bytes.now))) }
 {
-    match read_words(alloc, bytes)? {
-        Some(line) => draft.after(alloc, line),
-        None => Ok(None),
+    match read_words(alloc, bytes) {
+        Ok(Some(line)) => draft.after(alloc, line),
+        Ok(None) => {
+            drop(draft);
+            Ok(None)
+        }
+        Err(refused) => {
+            drop(draft);
+            Err(refused)
+        }
     }
 }
 
@@ -47,6 +54,7 @@ pub fn read(alloc: Global, bytes: &[u8]) -> Result<Cert, CertFault>
     for lines in 0..bytes.len() {
         let number = lines as u64 + 1;
         let Some((line, behind)) = split_at(b'\n', rest) else {
+            drop(draft);
             return Err(CertFault::CutShort);
         };
         let Some(next) = after_bytes(alloc, draft, line)? else {
@@ -58,5 +66,6 @@ pub fn read(alloc: Global, bytes: &[u8]) -> Result<Cert, CertFault>
         }
         rest = behind;
     }
+    drop(draft);
     Err(CertFault::CutShort)
 }

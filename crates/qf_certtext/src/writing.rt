@@ -5,7 +5,7 @@ ghost use Rattle.std.specs.List.{flat_map};
 ghost use Rattle.std.specs.Fmt.{decimal, signed_decimal};
 ghost use Rattle.qf_tree.specs.Lines.{node_lines, step_line};
 ghost use Rattle.qf_tree.specs.declared.line.Line.TheVariants as line;
-ghost use Rattle.qf_certtext.specs.Spelling.{row_word, line_bytes, bytes_of_lines, spelling, value_text, value_texts, stated_bytes};
+ghost use Rattle.qf_certtext.specs.Spelling.{row_word, bound_parts, line_bytes, bytes_of_lines, spelling, value_text, value_texts, stated_bytes};
 
 use qf_base::{Bound, List, NoMemory, RowName};
 use qf_lin::Step;
@@ -44,6 +44,16 @@ fn add_refuted(alloc: Global, text: &mut List<u8>, row: RowName) -> Result<(), N
     text.extend(written.as_bytes())
 }
 
+// The word for a bound's side, and its number.
+fn bound_parts(bound: Bound) -> (&'static str, i64)
+    ensures { (result.0.now, result.1) ≡ bound_parts bound }
+{
+    match bound {
+        Bound::Low(least) => ("ge", least),
+        Bound::High(most) => ("le", most),
+    }
+}
+
 fn add_tight(
     alloc: Global,
     text: &mut List<u8>,
@@ -53,10 +63,8 @@ fn add_tight(
 ) -> Result<(), NoMemory>
     ensures { OnOk result (text.new ≡ text.old ++ line_bytes (line.Tight inequality var bound)) }
 {
-    let written = match bound {
-        Bound::Low(least) => format!(in alloc; "ge {inequality} {var} {least}\n")?,
-        Bound::High(most) => format!(in alloc; "le {inequality} {var} {most}\n")?,
-    };
+    let (side, end) = bound_parts(bound);
+    let written = format!(in alloc; "{side} {inequality} {var} {end}\n")?;
     text.extend(written.as_bytes())
 }
 

@@ -10,7 +10,7 @@ use std::marker::Model;
 
 /// A definition of a circuit. It names earlier definitions by their numbers, from 1, and a parameter by its number, from
 /// 1. Truth is 1, and falsehood 0.
-#[derive(Debug, Drop)]
+#[derive(Drop)]
 pub enum Def {
     /// The value of a parameter.
     Param(u32),
@@ -30,7 +30,7 @@ pub enum Def {
 
 /// Definitions, each of which names only earlier ones, and takes only truths for truths. A circuit is seen as the list of
 /// its definitions; definition `n`, from 1, stands at place `n - 1`.
-#[derive(Debug, Drop)]
+#[derive(Drop)]
 pub struct Circuit {
     defs: List<Def>,
 }

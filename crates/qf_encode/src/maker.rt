@@ -11,7 +11,7 @@ use std::alloc::Global;
 use std::marker::Model;
 
 /// Definitions as they are made, seen as their list. It knows the number of each parameter's definition.
-#[derive(Debug, Drop)]
+#[derive(Drop)]
 pub struct Maker {
     alloc: Global,
     defs: List<Def>,

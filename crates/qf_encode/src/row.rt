@@ -12,7 +12,7 @@ use qf_circuit::Def;
 use qf_ir::{Cond, Expr, Statement};
 
 /// A row whose definitions are being made: those so far, and the numbers of those of its columns and of whether it lives.
-#[derive(Debug, Drop)]
+#[derive(Drop)]
 pub struct RowMaker {
     pub maker: Maker,
     pub columns: List<u32>,

@@ -7,7 +7,7 @@ use qf_base::{Kind, NoMemory, Refusal};
 /// whose field has not its form, `UnknownParam` names no parameter of the log and `RepeatedParam` one that an earlier
 /// record names; each has the number of its record, from 1, and `BadDomain(0)` is a wrong header. `BadJson` is no JSON
 /// array. `BadComplaint` has the number of an element, from 1, that has not its form.
-#[derive(Clone, Copy, Debug, PartialEq, Eq)]
+#[derive(Clone, Copy, PartialEq, Eq)]
 pub enum FormFault {
     UnevenDomain(u32),
     BadDomain(u32),

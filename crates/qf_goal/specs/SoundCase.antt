@@ -1,5 +1,5 @@
 -- What is known of every problem, and what is asked of complaints before one is made of them.
-use Rattle.std.specs.Prelude.{◌≡◌, ℕ, ◌≤◌, true, List, length, map, slice_get}
+use Rattle.std.specs.Prelude.{◌≡◌, ℕ, ◌≤◌, List, length, map, slice_get}
 use Rattle.std.specs.declared.option.Option.TheVariants.{Some}
 use Rattle.std.specs.List.{IsDistinct, AllByRecursion}
 use Rattle.qf_base.specs.Values.{In}

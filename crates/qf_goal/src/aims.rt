@@ -24,7 +24,7 @@ use qf_replay::{Births, Room};
 use std::alloc::Global;
 
 /// The goals of rows in row order, those of them that a complaint is about, and where a repair has to change something.
-#[derive(Debug, Drop)]
+#[derive(Drop)]
 pub(crate) struct Aims {
     pub(crate) goals: List<Goal>,
     pub(crate) complained: List<RowName>,

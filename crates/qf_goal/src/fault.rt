@@ -6,7 +6,7 @@ use qf_base::{Kind, NoMemory, Refusal};
 /// Why complaints are no problem over a program: there are more than 1,000 of them, or the complaint of this number, from
 /// 1, is about a row that does not exist, about one that an earlier complaint is about, states the cell of a column that
 /// the table lacks, or a number for a text or a text for a number.
-#[derive(Clone, Copy, Debug, PartialEq, Eq)]
+#[derive(Clone, Copy, PartialEq, Eq)]
 pub enum GoalFault {
     TooManyComplaints,
     UnknownRow(u32),

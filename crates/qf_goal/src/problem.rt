@@ -1,15 +1,19 @@
 ghost use Rattle.qf_forms.specs.Stated.{StatesNamesOnce, StatesSmallNumbers};
-ghost use Rattle.std.specs.Prelude.{◌≡◌, ◌<◌, ◌^◌, ◌↔◌, None, Some, IfOk, length, slice_get};
+ghost use Rattle.std.specs.Prelude.{◌≡◌, ◌<◌, ◌^◌, ◌↔◌, None, Some, Ok, Err, IfOk, IfErr, length, slice_get};
 ghost use Rattle.std.specs.List.{list_any, find, AllByRecursion};
 ghost use Rattle.qf_base.specs.Values.{In};
 ghost use Rattle.qf_ir.specs.ColumnSets.{has};
 ghost use Rattle.qf_ir.specs.Flow.{Place, same_place};
-ghost use Rattle.qf_ir.specs.Plan.{IsSound, Belongs, Fits, RowExists};
+ghost use Rattle.qf_ir.specs.Plan.{IsSound, Belongs, Fits, FitsAt, RowExists};
 ghost use Rattle.qf_ir.specs.Tables.{IsSoundTable};
+ghost use Rattle.qf_base.specs.declared.names.RowName.{RowName as Row};
+ghost use Rattle.qf_ir.specs.declared.cell.Ask.{Ask as Wanted};
+ghost use Rattle.qf_replay.specs.BirthPlaces.{births_of};
+ghost use Rattle.qf_goal.specs.Case.{Case as Problems};
 ghost use Rattle.qf_goal.specs.Case.{case_rows, goal_at, mends, Mends, is_complained, complained_rows, misses, first_failing};
-ghost use Rattle.qf_goal.specs.Kept.{misses_unasked};
-ghost use Rattle.qf_goal.specs.RowPlaces.{asked_rows, marks_of as row_marks};
-ghost use Rattle.qf_goal.specs.SeedPlaces.{case_seeds};
+ghost use Rattle.qf_goal.specs.Kept.{misses_unasked, AreAimsOf, IsKept};
+ghost use Rattle.qf_goal.specs.RowPlaces.{asked_rows, plan_rows, marks_of as row_marks};
+ghost use Rattle.qf_goal.specs.SeedPlaces.{case_seeds, ListsColumnsBelow};
 ghost use Rattle.qf_goal.specs.Asked.{problem_of};
 ghost use Rattle.qf_goal.specs.SoundCase.{IsSoundCase};
 ghost use Rattle.qf_goal.specs.Faults.{Gives};
@@ -67,6 +71,76 @@ fn note_sound(program: &Program, domains: &Domains)
     let _region = domains.region();
 }
 
+// What is asked of a program, and what is known beside it.
+#[derive(Drop)]
+struct Made {
+    asks: List<(RowName, Ask)>,
+    marks: List<Option<u32>>,
+    births: Births,
+    aims: Aims,
+}
+
+// Where rows are born, and what is known of all rows, of which each has a mark that tells its complaint.
+fn known(
+    alloc: Global,
+    program: &Program,
+    table: &Table,
+    asks: &[(RowName, Ask)],
+    marks: &List<Option<u32>>,
+) -> Result<(Births, Aims), NoMemory>
+    requires sound { IsSound program.now }
+    requires belongs { Belongs program.now table.now }
+    requires fits { FitsAt program.now table.now program.now.olds }
+    requires marks { marks.now ≡ row_marks program.now (asked_rows asks.now) }
+    requires columns { AllByRecursion (λ (a : Row × Wanted). ListsColumnsBelow 32 a.1) asks.now }
+    ensures births { IfOk result (λ known. known.0 ≡ births_of program.now.statements) }
+    ensures aims { IfOk result (λ known. AreAimsOf program.now table.now asks.now (plan_rows program.now) known.1) }
+{
+    let births = Births::new(alloc, program)?;
+    match aims_of(alloc, program, table, &births, asks, marks) {
+        Ok(aims) => Ok((births, aims)),
+        Err(fault) => {
+            drop(births);
+            Err(fault)
+        }
+    }
+}
+
+// What the complaints ask, and what is known beside it; the program comes to know their texts.
+fn worked(
+    alloc: Global,
+    program: &mut Program,
+    table: &Table,
+    complaints: &List<Complaint>,
+    domains: &Domains,
+) -> Result<Made, GoalFault>
+    requires table { IsSoundTable table.now }
+    requires belongs { Belongs program.old table.now }
+    requires olds { domains.now.olds ≡ program.old.olds }
+    requires fits { Fits program.old table.now domains.now.region }
+    requires few_texts { length program.old.texts < 2 ^ 31 }
+    requires names { AllByRecursion StatesNamesOnce complaints.now }
+    requires numbers { AllByRecursion StatesSmallNumbers complaints.now }
+    ensures made { IfOk result (λ made. problem_of program.old table.now complaints.now domains.now ≡ Ok (record { plan = program.new; table = table.now; asks = made.asks; domains = domains.now })) }
+    ensures kept { IfOk result (λ made. IsKept (record { plan = program.new; table = table.now; asks = made.asks; domains = domains.now }) made.births made.marks made.aims) }
+    ensures fault { IfErr result (λ fault. Gives {X = Problems} (Err fault) (problem_of program.old table.now complaints.now domains.now)) }
+{
+    if complaints.len() > MOST_COMPLAINTS {
+        return Err(GoalFault::TooManyComplaints);
+    }
+    note_sound(program, domains);
+    let marks = marks_of(alloc, program, complaints.as_slice())?;
+    let asks = asks_of(alloc, program, complaints.as_slice())?;
+    note_sound(program, domains);
+    let (births, aims) = known(alloc, program, table, asks.as_slice(), &marks)?;
+    Ok(Made {
+        asks,
+        marks,
+        births,
+        aims,
+    })
+}
+
 impl Problem {
     /// The problem that the complaints make of a program, its table and its domains. A row and, in each complaint, the
     /// columns must exist and the values be of their columns' types; the refusal is that of the first complaint with a
@@ -88,42 +162,32 @@ impl Problem {
         requires numbers { AllByRecursion StatesSmallNumbers complaints.now }
         ensures { Gives result (problem_of program table complaints.now domains) }
     {
-        if complaints.len() > MOST_COMPLAINTS {
-            return Err(GoalFault::TooManyComplaints);
-        }
-        note_sound(&program, &domains);
-        let marks = marks_of(alloc, &program, complaints.as_slice())?;
         let mut program = program;
-        let asks = asks_of(alloc, &mut program, complaints.as_slice())?;
-        note_sound(&program, &domains);
-        let problem = Problem::over(alloc, program, table, domains, asks, marks)?;
-        Ok(problem)
-    }
-
-    // The problem of what is asked, with the mark of each row.
-    fn over(
-        alloc: Global,
-        program: Program,
-        table: Table,
-        domains: Domains,
-        asks: List<(RowName, Ask)>,
-        marks: List<Option<u32>>,
-    ) -> Result<Problem, NoMemory>
-        requires sound { IsSoundCase (record { plan = program; table = table; asks = asks; domains = domains }) }
-        requires marks { marks ≡ row_marks program (asked_rows asks) }
-        ensures { IfOk result (λ problem. problem ≡ record { plan = program; table = table; asks = asks; domains = domains }) }
-    {
-        let births = Births::new(alloc, &program)?;
-        let aims = aims_of(alloc, &program, &table, &births, asks.as_slice(), &marks)?;
-        Ok(Problem {
-            program,
-            table,
-            domains,
-            asks,
-            births,
-            marks,
-            aims,
-        })
+        match worked(alloc, &mut program, &table, complaints, &domains) {
+            Ok(made) => {
+                let Made {
+                    asks,
+                    marks,
+                    births,
+                    aims,
+                } = made;
+                Ok(Problem {
+                    program,
+                    table,
+                    domains,
+                    asks,
+                    births,
+                    marks,
+                    aims,
+                })
+            }
+            Err(fault) => {
+                drop(program);
+                drop(table);
+                drop(domains);
+                Err(fault)
+            }
+        }
     }
 
     /// The program, which knows the texts of the complaints too.

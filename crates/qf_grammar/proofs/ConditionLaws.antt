@@ -13,7 +13,7 @@ use Rattle.qf_grammar.specs.Spelling.{Lexemes, Unit', Conj, Chain, negated, grou
 use Rattle.qf_grammar.specs.Reading.{Reader, behind, is_and, is_or, is_not, is_open, closed, others, chain, conj_with, chain_with, test_of, group_or, not_or, too_deep, unit_at, compare_at, side_at, sum_at, term_at}
 use Rattle.qf_grammar.proofs.Spelled.{When, Spelled, Front, when_map, join, and_front, or_front, not_front, open_front, compare_good}
 use Rattle.qf_grammar.proofs.ReadAgain.{Stops, goes_on_sum, none_behind, compare_again, begins_compare}
-use Rattle.qf_grammar.proofs.Units.{not_at, group_at, test_at}
+use Rattle.qf_grammar.proofs.Units.{not_inside, group_inside, not_at, group_at, test_at}
 
 -- ---- what is spelled is read
 
@@ -71,10 +71,10 @@ mutual
       let b = begins_compare t rest in
       sym (test_at d (spell_compare t ++ rest) (sym b.0) (sym b.1)) ∙ ap (option_map (λ (p : Compare × Lexemes). (condition.Test p.0, p.1))) (compare_again t rest s)
   unit_again (negated u) d rest le s =
-      sym (not_at d (lex.Key key.Not ∷ (spell_unit u ++ rest)) (spell_unit u ++ rest) (λ e. omega arith) refl)
+      sym (not_inside d (spell_unit u ++ rest) (λ e. omega arith) ∙ not_at d (lex.Key key.Not ∷ (spell_unit u ++ rest)) (spell_unit u ++ rest) refl)
       ∙ ap (option_map (λ (p : Condition × Lexemes). (condition.Not p.0, p.1))) (unit_again u (d - 1) rest (omega arith) s)
   unit_again (group c) d rest le s =
-      sym (group_at d (lex.Mark mark.Open ∷ ((spell_chain c ++ lex.Mark mark.Close ∷ []) ++ rest)) ((spell_chain c ++ lex.Mark mark.Close ∷ []) ++ rest) (λ e. omega arith) refl refl)
+      sym (group_inside d ((spell_chain c ++ lex.Mark mark.Close ∷ []) ++ rest) (λ e. omega arith) ∙ group_at d (lex.Mark mark.Open ∷ ((spell_chain c ++ lex.Mark mark.Close ∷ []) ++ rest)) ((spell_chain c ++ lex.Mark mark.Close ∷ []) ++ rest) refl refl)
       ∙ ap (λ xs. closed (chain_with (unit_at (d - 1)) xs)) (append_assoc (spell_chain c) (lex.Mark mark.Close ∷ []) rest)
       ∙ ap closed (ap (option_map (λ (p : List Condition × Lexemes). (any_of p.0, p.1)))
       (chain_again c (d - 1) (length (spell_chain c ++ lex.Mark mark.Close ∷ rest)) (lex.Mark mark.Close ∷ rest) (omega arith) refl refl refl (omega (arith, chain_short c, length-append (spell_chain c) (lex.Mark mark.Close ∷ rest)))))

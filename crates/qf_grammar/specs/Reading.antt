@@ -288,6 +288,16 @@ unfoldable pub unit_at : ℕ → Reader Condition
 unit_at zero xs = not_or too_deep too_deep (behind is_not xs) xs
 unit_at (suc d) xs = not_or (unit_at d) (chain_with (unit_at d)) (behind is_not xs) xs
 
+-- a unit behind NOT, where one more may nest
+abbrev pub negated_at : ℕ → Reader Condition
+negated_at zero xs = None
+negated_at (suc d) xs = option_map (λ p. (condition.Not p.0, p.1)) (unit_at d xs)
+
+-- a condition behind an opening bracket, where one more may nest
+abbrev pub grouped_at : ℕ → Reader Condition
+grouped_at zero xs = None
+grouped_at (suc d) xs = closed (chain_with (unit_at d) xs)
+
 -- ---- statements
 
 abbrev pub if_end : {A : Type 0} → A → Lexemes → Option A

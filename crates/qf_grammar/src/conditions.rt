@@ -2,7 +2,7 @@
 
 ghost use Rattle.std.specs.Prelude.{◌≡◌, ◌<◌, IfOk, length, option_map};
 ghost use Rattle.qf_grammar.specs.Spelling.{all_of, any_of};
-ghost use Rattle.qf_grammar.specs.Reading.{seen, behind, is_or, unit_at, conj_with, chain_with};
+ghost use Rattle.qf_grammar.specs.Reading.{seen, behind, is_or, test_of, negated_at, grouped_at, unit_at, conj_with, chain_with};
 
 use crate::compares::{behind_and, behind_not, compare};
 use crate::lexeme::{Key, Lexeme};
@@ -49,6 +49,58 @@ fn any_of(parts: List<Condition>) -> Condition
     }
 }
 
+/// The comparison at the front.
+fn tested(alloc: Global, lexemes: &[Lexeme]) -> Result<Option<(Condition, &[Lexeme])>, NoMemory>
+    ensures { IfOk result (λ o. seen o ≡ test_of lexemes.now) }
+{
+    let Some((compare, rest)) = compare(alloc, lexemes)? else {
+        return Ok(None);
+    };
+    Ok(Some((Condition::Test(compare), rest)))
+}
+
+/// The unit at the front, which stands behind NOT.
+#[cycle(conditions)]
+fn negated(
+    alloc: Global,
+    depth: u8,
+    lexemes: &[Lexeme],
+) -> Result<Option<(Condition, &[Lexeme])>, NoMemory>
+    ensures { IfOk result (λ o. seen o ≡ negated_at depth lexemes.now) }
+{
+    if depth == 0 {
+        return Ok(None);
+    }
+    let Some((inner, rest)) = unit(alloc, depth - 1, lexemes)? else {
+        return Ok(None);
+    };
+    Ok(Some((Condition::Not(Boxed::new(alloc, inner)?), rest)))
+}
+
+/// The condition at the front, which stands behind an opening bracket, up to the closing one.
+#[cycle(conditions)]
+fn grouped(
+    alloc: Global,
+    depth: u8,
+    lexemes: &[Lexeme],
+) -> Result<Option<(Condition, &[Lexeme])>, NoMemory>
+    ensures { IfOk result (λ o. seen o ≡ grouped_at depth lexemes.now) }
+{
+    if depth == 0 {
+        return Ok(None);
+    }
+    let Some((inner, rest)) = chain(alloc, depth - 1, lexemes)? else {
+        return Ok(None);
+    };
+    match behind_close(rest) {
+        Some(rest) => Ok(Some((inner, rest))),
+        None => {
+            drop(inner);
+            Ok(None)
+        }
+    }
+}
+
 #[cycle(conditions)]
 fn unit(
     alloc: Global,
@@ -58,30 +110,12 @@ fn unit(
     ensures { IfOk result (λ o. seen o ≡ unit_at depth lexemes.now) }
 {
     if let Some(rest) = behind_not(lexemes) {
-        if depth == 0 {
-            return Ok(None);
-        }
-        let Some((inner, rest)) = unit(alloc, depth - 1, rest)? else {
-            return Ok(None);
-        };
-        return Ok(Some((Condition::Not(Boxed::new(alloc, inner)?), rest)));
+        return negated(alloc, depth, rest);
     }
     if let Some(rest) = behind_open(lexemes) {
-        if depth == 0 {
-            return Ok(None);
-        }
-        let Some((inner, rest)) = chain(alloc, depth - 1, rest)? else {
-            return Ok(None);
-        };
-        let Some(rest) = behind_close(rest) else {
-            return Ok(None);
-        };
-        return Ok(Some((inner, rest)));
+        return grouped(alloc, depth, rest);
     }
-    let Some((compare, rest)) = compare(alloc, lexemes)? else {
-        return Ok(None);
-    };
-    Ok(Some((Condition::Test(compare), rest)))
+    tested(alloc, lexemes)
 }
 
 #[cycle(conditions)]

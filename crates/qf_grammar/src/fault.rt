@@ -7,7 +7,7 @@ ghost use Rattle.qf_grammar.specs.Refusals.{refusal_of};
 use qf_base::{Kind, Refusal};
 
 /// The first fault of a log, with the number of its statement, from 1.
-#[derive(Clone, Copy, Debug, PartialEq, Eq)]
+#[derive(Clone, Copy, PartialEq, Eq)]
 pub enum LogFault {
     /// The statement is in no form.
     BadSyntax(u32),

@@ -14,7 +14,7 @@ use qf_base::{List, NoMemory};
 use std::alloc::Global;
 
 /// A statement of a log with what it uses, in the order of its text.
-#[derive(Debug, Drop)]
+#[derive(Drop)]
 pub struct Stated {
     pub form: Form,
     pub uses: List<Use>,
@@ -110,8 +110,13 @@ fn judge(
     let Some(form) = form(alloc, piece)? else {
         return Err(LogFault::BadSyntax(number));
     };
-    let uses = read_uses(alloc, piece)?;
-    judge_form(numbers, first, number, form, uses)
+    match read_uses(alloc, piece) {
+        Ok(uses) => judge_form(numbers, first, number, form, uses),
+        Err(fault) => {
+            drop(form);
+            Err(LogFault::from(fault))
+        }
+    }
 }
 
 /// The statements that the lexemes spell, or their first fault: the first statement with a fault counts, and of its

@@ -16,7 +16,7 @@ const MOST: u64 = 1_000_000;
 
 /// What a statement uses: a name, a text or a number that stands alone, by its number, or the two factors of a product.
 /// A number that stands alone is a parameter, and one in a product with a name a coefficient.
-#[derive(Clone, Copy, Debug, PartialEq, Eq)]
+#[derive(Clone, Copy, PartialEq, Eq)]
 pub enum Use {
     Name(u32),
     Text(u32),

@@ -4,3 +4,4 @@ pub mod SetSteps
 pub mod Flows
 pub mod Chains
 pub mod Ranges
+pub mod Spreading

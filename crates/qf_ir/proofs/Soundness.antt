@@ -131,15 +131,6 @@ module _ (table : Table) (names texts : List (List ℕ)) (statements : List Stat
   plan = plan_of table names texts statements olds
 
   -- the parts that the code makes are the plan's
-  pub statements-are : (columns codes : List ℕ) (made given : List Statement) → columns ≡ map (code_in (names_of table.columns)) names
-      → codes ≡ map (code_in (joint_texts table texts)) texts → made ≡ map (numbered_statement (record { columns = columns; codes = codes })) given
-      → given ≡ statements → made ≡ plan.statements
-  statements-are columns codes made given is_columns is_codes is_made is_given =
-      is_made
-      ∙ ap (map (numbered_statement (record { columns = columns; codes = codes }))) is_given
-      ∙ ap (λ (ks : List ℕ). map (numbered_statement (record { columns = ks; codes = codes })) statements) is_columns
-      ∙ ap (λ (ks : List ℕ). map (numbered_statement (record { columns = map (code_in (names_of table.columns)) names; codes = ks })) statements) is_codes
-
   pub plan-is : (columns : List Column) (made : List Statement) (joint : List (List ℕ)) (starts inserted : ℕ) → columns ≡ table.columns → made ≡ plan.statements
       → joint ≡ joint_texts table texts → starts ≡ length table.rows → inserted ≡ inserted_count made
       → ◌≡◌ {A = Plan} (record { columns = columns; statements = made; olds = olds; texts = joint; starts = starts; inserted = inserted }) plan
@@ -207,11 +198,3 @@ module _ (table : Table) (names texts : List (List ℕ)) (statements : List Stat
 
   pub gives-plan : fault_from (kinds_of table.columns) 1 0 (length table.rows) plan.statements ≡ None → program_of table names texts statements olds ≡ Ok plan
   gives-plan none = ap (λ o. unless o plan) none
-
-  pub gives-fault : (f : IrFault) → Passes (kinds_of table.columns) (length table.rows) plan.statements (Err f) → Gives {X = Plan} (Err f) (program_of table names texts statements olds)
-  gives-fault (fault.UnknownColumn k) found = ap (λ o. unless o plan) found
-  gives-fault (fault.WrongType k) found = ap (λ o. unless o plan) found
-  gives-fault (fault.RepeatedColumn k) found = ap (λ o. unless o plan) found
-  gives-fault (fault.MissingColumn k) found = ap (λ o. unless o plan) found
-  gives-fault (fault.TooMany k) found = ap (λ o. unless o plan) found
-  gives-fault fault.NoMemory found = tt

@@ -18,4 +18,5 @@ pub mod Numbered
 pub mod Checked
 pub mod Tallies
 pub mod Steps
+pub mod Making
 pub mod Laws

@@ -3,6 +3,7 @@
 
 pub(crate) mod faults;
 pub(crate) mod numbering;
+pub(crate) mod parts;
 pub(crate) mod renumber;
 pub(crate) mod tally;
 pub(crate) mod types;

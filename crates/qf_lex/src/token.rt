@@ -7,7 +7,7 @@ ghost use Rattle.qf_lex.specs.Refusals.{refusal_of};
 use qf_base::{Kind, Refusal};
 
 /// What a token is. Its text is its slice of the log's bytes.
-#[derive(Clone, Copy, Debug, PartialEq, Eq)]
+#[derive(Clone, Copy, PartialEq, Eq)]
 pub enum TokenKind {
     /// A reserved word or a name: an ASCII letter or `_`, then letters, digits and `_`.
     Word,
@@ -21,7 +21,7 @@ pub enum TokenKind {
 
 /// A token of a log: the bytes from offset `start` up to offset `end`, which is the first behind it. Offsets count from
 /// 0 over all bytes of the file, byte order marks included.
-#[derive(Clone, Copy, Debug, PartialEq, Eq)]
+#[derive(Clone, Copy, PartialEq, Eq)]
 pub struct Token {
     pub start: u64,
     pub end: u64,
@@ -29,7 +29,7 @@ pub struct Token {
 }
 
 /// The first fault of a scan, with the offset of its byte, from 0 over all bytes of the file.
-#[derive(Clone, Copy, Debug, PartialEq, Eq)]
+#[derive(Clone, Copy, PartialEq, Eq)]
 pub enum LexFault {
     /// A byte that begins no token, or that between two quotes is the first behind the longest front that is UTF-8.
     BadByte(u64),

@@ -45,7 +45,7 @@ one_behind bytes from (t ∷ ts) o s m zero lt in' = absurd (omega arith)
 one_behind bytes from (t ∷ ts) o s zero (suc n) lt in' = starts_behind bytes t.end ts o.1 s.1 n (omega arith)
 one_behind bytes from (t ∷ ts) o s (suc m) (suc n) lt in' = one_behind bytes t.end ts o.1 s.1 m n (omega arith) (omega arith)
 
-stands_at : (bytes : List ℕ) (ts : List Token) → AllByRecursion (StandsIn bytes) ts → (n : ℕ) → n < length ts → StandsIn bytes (token_at ts n)
+pub stands_at : (bytes : List ℕ) (ts : List Token) → AllByRecursion (StandsIn bytes) ts → (n : ℕ) → n < length ts → StandsIn bytes (token_at ts n)
 stands_at bytes [] s n lt = absurd (omega arith)
 stands_at bytes (t ∷ ts) s zero lt = s.0
 stands_at bytes (t ∷ ts) s (suc n) lt = stands_at bytes ts s.1 n (omega arith)

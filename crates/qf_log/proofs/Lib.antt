@@ -10,3 +10,6 @@ pub mod MadeFacts
 pub mod Ordering
 pub mod Apart
 pub mod ReadyLaws
+pub mod BodyLaws
+pub mod TreeLaws
+pub mod PlaceLaws

@@ -121,7 +121,7 @@ module _ (numbers : List ℤ) (ids : List ℕ) (texts : ℕ) where
 
 -- ---- the whole log
 
-kept_all : {A : Type 0} (P : A → Type 0) (p : A → Bool) (xs : List A) → AllByRecursion P xs → AllByRecursion P (filter p xs)
+pub kept_all : {A : Type 0} (P : A → Type 0) (p : A → Bool) (xs : List A) → AllByRecursion P xs → AllByRecursion P (filter p xs)
 kept_all P p [] h = tt
 kept_all P p (x ∷ xs) h = elim (p x) as (λ b. AllByRecursion P (cond b (x ∷ filter p xs) (filter p xs))) [
   | true ↦ (h.0, kept_all P p xs h.1)
@@ -156,7 +156,7 @@ place_count tokens numbers k (s ∷ all) =
     ∙ ap length (sym (flat_map-append Rattle.qf_log.specs.Parameters.alone s.uses (all_uses all)))
 
 -- the numbers that the statements use are all of the log's, in order
-used_in_order : (bytes : List ℕ) (tokens : List Token) (all : List Stated) → AreStated (lexed_of (map (said_by bytes) tokens)).numbers (lexed_of (map (said_by bytes) tokens)).lexemes all → GoOn 0 (used_places (all_uses all))
+pub used_in_order : (bytes : List ℕ) (tokens : List Token) (all : List Stated) → AreStated (lexed_of (map (said_by bytes) tokens)).numbers (lexed_of (map (said_by bytes) tokens)).lexemes all → GoOn 0 (used_places (all_uses all))
 used_in_order bytes tokens all h =
     let saids = map (said_by bytes) tokens in
     let l = lexed_of saids in
@@ -192,7 +192,7 @@ ready bytes tokens all are few e =
       small_olds = small_all places numbers 1 all (are_small bytes tokens are);
     }
 
-used_count : (bytes : List ℕ) (tokens : List Token) (all : List Stated) → AreStated (lexed_of (map (said_by bytes) tokens)).numbers (lexed_of (map (said_by bytes) tokens)).lexemes all → length (used_places (all_uses all)) ≡ length (numbers_of (map (said_by bytes) tokens))
+pub used_count : (bytes : List ℕ) (tokens : List Token) (all : List Stated) → AreStated (lexed_of (map (said_by bytes) tokens)).numbers (lexed_of (map (said_by bytes) tokens)).lexemes all → length (used_places (all_uses all)) ≡ length (numbers_of (map (said_by bytes) tokens))
 used_count bytes tokens all h =
     let saids = map (said_by bytes) tokens in
     let l = lexed_of saids in
@@ -211,12 +211,12 @@ stand_apart bytes tokens all are e =
     (places_from (filter p tokens) l.numbers 1 all) (parameters_in (all_uses all)) (same_places (filter p tokens) l.numbers 1 all) (ascending (all_uses all) 0 on)
     (below (all_uses all) 0 (length (filter p tokens)) on (omega (arith, used_count bytes tokens all s, number_count bytes tokens))) (λ n le lt. omega arith) (omega arith)
 
-abbrev FromStated : List ℕ → List Token → Reading → Type 0
+abbrev pub FromStated : List ℕ → List Token → Reading → Type 0
 FromStated bytes tokens log =
     (all : List Stated) × (statements_of (lexed_of (map (said_by bytes) tokens)).numbers (lexed_of (map (said_by bytes) tokens)).lexemes ≡ Ok all)
     × (reading_of (filter (λ (t : Token). is_number t.kind) tokens) (lexed_of (map (said_by bytes) tokens)) all ≡ log)
 
-from_case : (bytes : List ℕ) (tokens : List Token) (log : Reading) (r : Result (List Stated) LogFault) → statements_of (lexed_of (map (said_by bytes) tokens)).numbers (lexed_of (map (said_by bytes) tokens)).lexemes ≡ r
+pub from_case : (bytes : List ℕ) (tokens : List Token) (log : Reading) (r : Result (List Stated) LogFault) → statements_of (lexed_of (map (said_by bytes) tokens)).numbers (lexed_of (map (said_by bytes) tokens)).lexemes ≡ r
     → reading_or (filter (λ (t : Token). is_number t.kind) tokens) (lexed_of (map (said_by bytes) tokens)) r ≡ Ok log → FromStated bytes tokens log
 from_case bytes tokens log (Ok all) e h = (all, e, cc)
 from_case bytes tokens log (Err x) e h = absurd cc

@@ -3,4 +3,7 @@ pub mod Lexed
 pub mod Parameters
 pub mod Lowered
 pub mod Reading
+pub mod Bodies
 pub mod Ready
+pub mod Places
+pub mod Trees

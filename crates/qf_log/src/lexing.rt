@@ -19,7 +19,7 @@ use std::alloc::Global;
 use std::str::from_utf8;
 
 /// The lexemes of a log, with the names, texts and numbers that they speak of by their places.
-#[derive(Debug, Drop)]
+#[derive(Drop)]
 pub(crate) struct Lexed {
     pub names: List<Name>,
     pub texts: Texts,
@@ -42,14 +42,16 @@ impl Lexer {
         ensures lexed { IfOk result (λ lexer. lexer.lexed ≡ nothing_said) }
         ensures index { IfOk result (λ lexer. lexer.index ≡ []) }
     {
+        let index = Texts::new(alloc)?;
+        let texts = Texts::new(alloc)?;
         Ok(Lexer {
             alloc,
-            index: Texts::new(alloc)?,
+            index,
             folded: String::new(alloc),
             unquoted: Vec::new(alloc),
             lexed: Lexed {
                 names: List::new(alloc),
-                texts: Texts::new(alloc)?,
+                texts,
                 numbers: List::new(alloc),
                 lexemes: List::new(alloc),
             },
@@ -131,6 +133,19 @@ impl Lexer {
             TokenKind::Symbol => self.add_mark(text),
         }
     }
+
+    fn add_all(&mut self, bytes: &[u8], tokens: &[Token]) -> Result<(), NoMemory>
+        requires lexed { self.old.lexed ≡ nothing_said }
+        requires index { self.old.index ≡ [] }
+        requires stand { All (StandsIn bytes.now) tokens.now }
+        requires few { length tokens.now < 2 ^ 30 }
+        ensures { OnOk result (self.new.lexed ≡ lexed_of (map (said_by bytes.now) tokens.now)) }
+    {
+        for token in tokens {
+            self.add(bytes, *token)?;
+        }
+        Ok(())
+    }
 }
 
 /// Adds the name with this number, where it is new.
@@ -162,8 +177,14 @@ pub(crate) fn lex(alloc: Global, bytes: &[u8], tokens: &[Token]) -> Result<Lexed
     ensures { IfOk result (λ lexed. lexed ≡ lexed_of (map (said_by bytes.now) tokens.now)) }
 {
     let mut lexer = Lexer::new(alloc)?;
-    for token in tokens {
-        lexer.add(bytes, *token)?;
+    match lexer.add_all(bytes, tokens) {
+        Ok(()) => {
+            let Lexer { lexed, .. } = lexer;
+            Ok(lexed)
+        }
+        Err(fault) => {
+            drop(lexer);
+            Err(fault)
+        }
     }
-    Ok(lexer.lexed)
 }

@@ -11,7 +11,7 @@ use std::alloc::Global;
 
 /// A parameter of a log: the number of its statement, from 1, its literal, which is the bytes from offset `start` up to
 /// offset `end`, and the literal's value. Offsets count from 0 over all bytes of the file.
-#[derive(Clone, Copy, Debug, PartialEq, Eq)]
+#[derive(Clone, Copy, PartialEq, Eq)]
 pub struct ParamPlace {
     pub statement: u32,
     pub start: u64,

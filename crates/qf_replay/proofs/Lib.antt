@@ -5,3 +5,4 @@ pub mod Sets
 pub mod LifeSteps
 pub mod Meeting
 pub mod Ends
+pub mod Keeping

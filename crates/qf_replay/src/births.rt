@@ -11,7 +11,7 @@ type Places = List<(u32, u32)>;
 
 /// Where the rows that a program inserts are born: for i1, i2, .. the place of the INSERT among the statements and of the
 /// tuple in it, both from 0. It is made once for a program, so that no row is looked for among the statements again.
-#[derive(Debug, Drop)]
+#[derive(Drop)]
 pub struct Births {
     places: Places,
 }

@@ -7,7 +7,7 @@ use std::marker::Model;
 
 /// Room for the cells of one row, which is used again for row after row: it is made once, and no call that it is lent to
 /// takes memory for cells. Contracts see how many cells it has room for.
-#[derive(Debug, Drop)]
+#[derive(Drop)]
 pub struct Room {
     pub(crate) cells: Vec<Cell>,
     pub(crate) fresh: Vec<Cell>,

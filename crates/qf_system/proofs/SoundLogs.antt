@@ -1,5 +1,5 @@
 -- What a sound program and a sound table are, as the definitions of a row's circuit need it.
-use Rattle.std.proofs.Common.{◌≡◌, ℕ, suc, zero, ◌+◌, ◌<◌, ◌≤◌, ◌^◌, List, [], ◌∷◌, ◌++◌, length, map, slice_get, slice_index_or, unsigned_abs, arith, refl, sym, ap, ◌∙◌, inl, inr}
+use Rattle.std.proofs.Common.{◌≡◌, ℕ, suc, zero, ◌+◌, ◌<◌, ◌≤◌, ◌^◌, List, [], ◌∷◌, ◌++◌, length, map, slice_get, slice_index_or, unsigned_abs, arith, refl, ap, inl, inr}
 use Rattle.std.specs.declared.option.Option.{Option}
 use Rattle.std.specs.declared.option.Option.TheVariants.{Some, None}
 use Rattle.std.specs.List.{AllByRecursion, flat_map}
@@ -23,7 +23,6 @@ use Rattle.qf_ir.specs.declared.table.Column.{Column as TableColumn}
 use Rattle.qf_ir.specs.declared.table.ColumnKind.{ColumnKind}
 use Rattle.qf_ir.specs.declared.table.ColumnKind.TheVariants as kind
 use Rattle.qf_ir.specs.declared.table.Table.{Table}
-use Rattle.qf_ir.specs.Fits.{Small}
 use Rattle.qf_ir.specs.Made.{FactorFits, IsMade, HasFewTerms}
 use Rattle.qf_ir.specs.Parts.{terms_of, tests_of, tests_of_parts, exprs_in, where_of, values_of, statement_tests, items_of, exprs_of, all_exprs}
 use Rattle.qf_ir.specs.Plan.{Plan, IsSound, Belongs, scope_of}
@@ -31,7 +30,7 @@ use Rattle.qf_ir.specs.Replay.{place_of}
 use Rattle.qf_ir.specs.Tables.{CellIs, CellsAre, IsSoundTable}
 use Rattle.qf_ir.specs.Typed.{Scope, HasKind, AllOfKind, IsTyped, AreTyped, WhereTyped, Fits, SetsTyped, ColumnsFilled, TuplesTyped, StatementTyped, StatementsTyped}
 use Rattle.qf_ir.specs.Value.{Cells, number_of}
-use Rattle.qf_encode.specs.Lives.{RowsIn, StatementsIn}
+use Rattle.qf_encode.specs.Lives.{RowsIn}
 use Rattle.qf_system.specs.PlainLogs.{IsPlainLog}
 use Rattle.qf_system.specs.WidthsKept.{IsPlainExpr, ArePlain, IsPlainCond, ArePlainConds, IsPlainFilter, ArePlainSets, IsPlainTuple, IsPlainStatement, ArePlainStatements, IsPlainTable}
 use Rattle.qf_encode.proofs.Typing.{statements_in}

@@ -1,5 +1,5 @@
 -- Programs over sound tables are within the limits that keep a row's circuit small.
-use Rattle.std.specs.Prelude.{◌≤◌, ◌^◌, length}
+use Rattle.std.specs.Prelude.{length}
 use Rattle.qf_ir.specs.declared.table.Table.{Table}
 use Rattle.qf_ir.specs.Plan.{Plan, IsSound, Belongs}
 use Rattle.qf_ir.specs.Tables.{IsSoundTable}

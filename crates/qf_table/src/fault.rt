@@ -6,7 +6,7 @@ use qf_base::{Kind, NoMemory, Refusal};
 /// Why a table could not be read. `BadName` and `RepeatedName` have the number of a field of the header, from 1; `Uneven`
 /// has the number of a record under the header, from 1, that has another number of fields; `BadNumber` and `BadText` have
 /// the numbers of a record and of a column.
-#[derive(Clone, Copy, Debug, PartialEq, Eq)]
+#[derive(Clone, Copy, PartialEq, Eq)]
 pub enum TableFault {
     NoHeader,
     TooManyColumns,

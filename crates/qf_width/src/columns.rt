@@ -15,7 +15,7 @@ use std::alloc::Global;
 use std::marker::Model;
 
 /// The intervals of the columns after a log, seen as the list of them.
-#[derive(Debug, Drop)]
+#[derive(Drop)]
 pub struct ColumnWidths {
     widths: Intervals,
 }
@@ -40,7 +40,7 @@ impl ColumnWidths {
 }
 
 /// Why there are no widths: the first statement, from 1, in which a number can leave -2^50 to 2^50, or want of memory.
-#[derive(Clone, Copy, Debug, PartialEq, Eq)]
+#[derive(Clone, Copy, PartialEq, Eq)]
 pub enum WideFault {
     Wide(u32),
     NoMemory,
@@ -72,25 +72,25 @@ impl WideFault {
     }
 }
 
-fn final_widths(
+// Takes the widths over the statements. `NoMemory` and `Wide` leave them somewhere on the way.
+fn advance_all(
     alloc: Global,
     statements: &[Statement],
     domains: &[Interval],
-    start: Intervals,
-) -> Result<Intervals, WideFault>
+    widths: &mut Intervals,
+) -> Result<(), WideFault>
     requires { length statements.now < 2 ^ 32 }
-    ensures ok { IfOk result (λ widths. widths_from 1 statements.now domains.now start ≡ Ok widths) }
-    ensures len { IfOk result (λ widths. length widths ≡ length start) }
-    ensures wide { (s : ℕ) → IsErrOf result (WideFault.Wide s) → widths_from 1 statements.now domains.now start ≡ Err s }
+    ensures ok { OnOk result (widths_from 1 statements.now domains.now widths.old ≡ Ok widths.new) }
+    ensures len { length widths.new ≡ length widths.old }
+    ensures wide { (s : ℕ) → IsErrOf result (WideFault.Wide s) → widths_from 1 statements.now domains.now widths.old ≡ Err s }
 {
-    let mut widths = start;
     let mut room = Vec::new(alloc);
     for (i, statement) in statements.iter().enumerate() {
-        if !advance(statement, domains, &mut widths, &mut room)? {
+        if !advance(statement, domains, widths, &mut room)? {
             return Err(WideFault::Wide(i as u32 + 1));
         }
     }
-    Ok(widths)
+    Ok(())
 }
 
 /// The widths of a table's columns under a program, with each parameter in its domain. `Wide` is the first statement, from
@@ -112,7 +112,12 @@ pub fn widths(
 {
     let statements = program.statements().as_slice();
     let width = program.columns().len() as u32;
-    let start = start_widths(alloc, width, table.rows.as_slice())?;
-    let widths = final_widths(alloc, statements, domains.region().as_slice(), start)?;
-    Ok(ColumnWidths { widths })
+    let mut widths = start_widths(alloc, width, table.rows.as_slice())?;
+    match advance_all(alloc, statements, domains.region().as_slice(), &mut widths) {
+        Ok(()) => Ok(ColumnWidths { widths }),
+        Err(fault) => {
+            drop(widths);
+            Err(fault)
+        }
+    }
 }

@@ -7,6 +7,7 @@ use Rattle.csv.proofs.ReadFacts.{rows-end, rows-more}
 use Rattle.qf_csv.specs.Records.{without_marks}
 use Rattle.qf_csv.proofs.AllRecords.{records_are, records_front, front_few}
 use Rattle.qf_csv.proofs.Marks.{marks_few}
+use Rattle.qf_csv.proofs.Wants.{wants}
 use Rattle.qf_csv.proofs.reading.read_first_records.Goals as goal
 
 pub loop-row-init : goal.loop-row-init
@@ -28,16 +29,24 @@ loop-row-init c =
       fr.source ∙ ap (λ t. Some t) text,
       (sym fr.state, refl),
       omega arith,
+      rw f at fr.flexible,
     )
 
 pub loop-row-preserved : goal.loop-row-preserved
 loop-row-preserved c =
     let inv = c.loop-row.invariant in
     let s = rw (c.in-Some.is, c.in-Ok.is) at ((c.next.ensures.steps inv.2 inv.0).0 inv.1) in
+    let flexible = rw (c.in-Some.is, c.in-Ok.is) at (c.next.ensures.steps inv.2 inv.0).3 in
     let items = c.in_ok-push.ensures.items in
     let longer = ap length items ∙ length-append c.loop-row.rows.items (c.in-Ok.row ∷ []) in
     let m = rows-more (λ (s : Bor (List ℕ)). Some s.now) c.loop-row.row-iterator.rdr c.next.new.self.rdr (fields_of c.in-Ok.row) default_config st.StartRecord (without_marks c.args.bytes.now) inv.4 (map fields_of c.loop-row.rows.items) inv.3 inv.5 inv.6 s.0 in
-    (s.0.3 ∙ inv.0, inl s.1, s.2, s.0.2 ∙ inv.3, m.0, m.1, rw (items, map-append fields_of c.loop-row.rows.items (c.in-Ok.row ∷ [])) m.2, omega (arith, longer, inv.7))
+    (s.0.3 ∙ inv.0, inl s.1, s.2, s.0.2 ∙ inv.3, m.0, m.1, rw (items, map-append fields_of c.loop-row.rows.items (c.in-Ok.row ∷ [])) m.2, omega (arith, longer, inv.7), flexible ∙ inv.8)
+
+pub wanting-requires : goal.wanting-requires
+wanting-requires c =
+    let inv = c.loop-row.invariant in
+    let why = rw (c.in-Some.is, c.in-Err.is) at ((c.next.ensures.steps inv.2 inv.0).0 inv.1) in
+    wants (λ (s : Bor (List ℕ)). Some s.now) c.loop-row.row-iterator.rdr c.next.new.self.rdr c.in-Err.error.kind inv.8 why
 
 pub returns : goal.returns
 returns c =

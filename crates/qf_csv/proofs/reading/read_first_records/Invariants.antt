@@ -1,4 +1,4 @@
-use Rattle.std.proofs.Common.{◌≡◌, ◌<◌, ◌≤◌, length, ℕ, List, Some, map}
+use Rattle.std.proofs.Common.{◌≡◌, ◌<◌, ◌≤◌, length, ℕ, List, Some, map, true}
 use Rattle.csv.specs.Reading.{Reached, Ready, default_config, source_of}
 use Rattle.csv.specs.Records.{fields_of}
 use Rattle.csv.specs.declared.parser.State.TheVariants as st
@@ -11,3 +11,4 @@ invariant-loop-row l = (l.row-iterator.rdr.trim ≡ trim.None) × Ready l.row-it
     × (y : List ℕ) × (source_of (λ s. Some s.now) l.row-iterator.rdr ≡ Some y)
     × Reached default_config st.StartRecord (without_marks l.fn.bytes) (map fields_of l.rows.items) l.row-iterator.rdr.state y
     × (length l.rows.items ≤ l.most)
+    × (l.row-iterator.rdr.flexible ≡ true)

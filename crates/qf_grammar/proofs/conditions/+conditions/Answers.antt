@@ -1,13 +1,12 @@
-use Rattle.std.proofs.Common.{List, ap, ◌∙◌, length, Some}
+use Rattle.std.proofs.Common.{◌≡◌, List, ap, subst, ◌∙◌, length, Some, IfOk}
 use Rattle.std.specs.Prelude.{option_map}
 use Rattle.qf_grammar.specs.declared.tree.Condition.{Condition}
 use Rattle.qf_grammar.specs.Spelling.{Lexemes, all_of, any_of}
 use Rattle.qf_grammar.specs.Reading.{chain, unit_at, conj_with, is_and, is_or}
 use Rattle.qf_grammar.proofs.Chains.{chain_start, chain_more, chain_none, chain_last, chain_out}
-use Rattle.qf_grammar.specs.declared.tree.Compare.{Compare}
 use Rattle.qf_grammar.specs.declared.tree.Condition.TheVariants as condition
-use Rattle.qf_grammar.specs.Reading.{closed}
-use Rattle.qf_grammar.proofs.Units.{not_at, not_deep, group_at, group_deep, test_at}
+use Rattle.qf_grammar.specs.Reading.{seen, closed}
+use Rattle.qf_grammar.proofs.Units.{Read, not_inside, not_deep, group_inside, group_deep, not_at, group_at, test_at}
 use Rattle.qf_grammar.proofs.conditions.+conditions.Goals as goal
 
 pub conj-returns-in_default : goal.conj-returns-in_default
@@ -74,29 +73,32 @@ chain-loop-preserved t c =
     let all = chain item is_or (length xs) xs in
     rw c.in_ok-push.ensures.ok (chain_more item is_or c.loop.parts (length xs) c.loop.counter c.loop.rest.now c.in-Some.part c.in-Some.after.now c.in-Some-behind_or.next.now all c.loop-test.true (rw c.in-Some.is at c.in_ok-part.ensures) c.in-Some-behind_or.ensures c.loop.invariant)
 
-pub unit-returns-then-depth-eq0 : goal.unit-returns-then-depth-eq0
-unit-returns-then-depth-eq0 t c = not_deep c.args.depth c.args.lexemes.now c.in-Some.rest.now c.if-depth-eq0.true c.in-Some.ensures
+pub negated-returns-then-depth-eq0 : goal.negated-returns-then-depth-eq0
+negated-returns-then-depth-eq0 t c = not_deep c.args.depth c.args.lexemes.now c.if-depth-eq0.true
 
-pub unit-returns-in_default-2 : goal.unit-returns-in_default-2
-unit-returns-in_default-2 t c = ap (option_map (λ (p : Condition × Lexemes). (condition.Not p.0, p.1))) (rw c.in_default-2.is at c.in_ok-inner.ensures) ∙ not_at c.args.depth c.args.lexemes.now c.in-Some.rest.now c.if-depth-eq0.false c.in-Some.ensures
+pub negated-returns-in_default : goal.negated-returns-in_default
+negated-returns-in_default t c = ap (option_map (λ (p : Condition × Lexemes). (condition.Not p.0, p.1))) (rw c.in_default.is at c.in_ok-inner.ensures) ∙ not_inside c.args.depth c.args.lexemes.now c.if-depth-eq0.false
+
+pub negated-returns : goal.negated-returns
+negated-returns t c = ap (λ (x : Condition). Some (condition.Not x, c.in-Some.rest.now)) c.in_ok-new.ensures ∙ ap (option_map (λ (p : Condition × Lexemes). (condition.Not p.0, p.1))) (rw c.in-Some.is at c.in_ok-inner.ensures) ∙ not_inside c.args.depth c.args.lexemes.now c.if-depth-eq0.false
+
+pub grouped-returns-then-depth-eq0 : goal.grouped-returns-then-depth-eq0
+grouped-returns-then-depth-eq0 t c = group_deep c.args.depth c.args.lexemes.now c.if-depth-eq0.true
+
+pub grouped-returns-in_default : goal.grouped-returns-in_default
+grouped-returns-in_default t c = ap closed (rw c.in_default.is at c.in_ok-inner.ensures) ∙ group_inside c.args.depth c.args.lexemes.now c.if-depth-eq0.false
+
+pub grouped-returns-in-None : goal.grouped-returns-in-None
+grouped-returns-in-None t c = ap (option_map (λ (r : Lexemes). (c.in-Some.inner, r))) c.in-None.ensures ∙ ap closed (rw c.in-Some.is at c.in_ok-inner.ensures) ∙ group_inside c.args.depth c.args.lexemes.now c.if-depth-eq0.false
+
+pub grouped-returns-in-Some-behind_close : goal.grouped-returns-in-Some-behind_close
+grouped-returns-in-Some-behind_close t c = ap (option_map (λ (r : Lexemes). (c.in-Some.inner, r))) c.in-Some-behind_close.ensures ∙ ap closed (rw c.in-Some.is at c.in_ok-inner.ensures) ∙ group_inside c.args.depth c.args.lexemes.now c.if-depth-eq0.false
 
 pub unit-returns-in-Some : goal.unit-returns-in-Some
-unit-returns-in-Some t c = ap (λ (x : Condition). Some (condition.Not x, c.in-Some-2.rest.now)) c.in_ok-new.ensures ∙ ap (option_map (λ (p : Condition × Lexemes). (condition.Not p.0, p.1))) (rw c.in-Some-2.is at c.in_ok-inner.ensures) ∙ not_at c.args.depth c.args.lexemes.now c.in-Some.rest.now c.if-depth-eq0.false c.in-Some.ensures
-
-pub unit-returns-then-depth-eq0-2 : goal.unit-returns-then-depth-eq0-2
-unit-returns-then-depth-eq0-2 t c = group_deep c.args.depth c.args.lexemes.now c.in-Some-behind_open.rest.now c.if-depth-eq0-2.true c.in_default.ensures c.in-Some-behind_open.ensures
-
-pub unit-returns-in_default-3 : goal.unit-returns-in_default-3
-unit-returns-in_default-3 t c = ap closed (rw c.in_default-3.is at c.in_ok-inner-2.ensures) ∙ group_at c.args.depth c.args.lexemes.now c.in-Some-behind_open.rest.now c.if-depth-eq0-2.false c.in_default.ensures c.in-Some-behind_open.ensures
-
-pub unit-returns-in_default-behind_close : goal.unit-returns-in_default-behind_close
-unit-returns-in_default-behind_close t c = ap (option_map (λ (r : Lexemes). (c.in-Some-3.inner, r))) c.in_default-behind_close.ensures ∙ ap closed (rw c.in-Some-3.is at c.in_ok-inner-2.ensures) ∙ group_at c.args.depth c.args.lexemes.now c.in-Some-behind_open.rest.now c.if-depth-eq0-2.false c.in_default.ensures c.in-Some-behind_open.ensures
+unit-returns-in-Some t c = subst (λ (r : Read). IfOk c.negated.result (λ o. seen o ≡ r)) (not_at c.args.depth c.args.lexemes.now c.in-Some.rest.now c.in-Some.ensures) c.negated.ensures
 
 pub unit-returns-in-Some-behind_open : goal.unit-returns-in-Some-behind_open
-unit-returns-in-Some-behind_open t c = ap (option_map (λ (r : Lexemes). (c.in-Some-3.inner, r))) c.in-Some-behind_close.ensures ∙ ap closed (rw c.in-Some-3.is at c.in_ok-inner-2.ensures) ∙ group_at c.args.depth c.args.lexemes.now c.in-Some-behind_open.rest.now c.if-depth-eq0-2.false c.in_default.ensures c.in-Some-behind_open.ensures
-
-pub unit-returns-in_default-4 : goal.unit-returns-in_default-4
-unit-returns-in_default-4 t c = ap (option_map (λ (p : Compare × Lexemes). (condition.Test p.0, p.1))) (rw c.in_default-4.is at c.in_ok-compare.ensures) ∙ test_at c.args.depth c.args.lexemes.now c.in_default.ensures c.in_default-behind_open.ensures
+unit-returns-in-Some-behind_open t c = subst (λ (r : Read). IfOk c.grouped.result (λ o. seen o ≡ r)) (group_at c.args.depth c.args.lexemes.now c.in-Some-behind_open.rest.now c.in_default.ensures c.in-Some-behind_open.ensures) c.grouped.ensures
 
 pub unit-returns : goal.unit-returns
-unit-returns t c = ap (option_map (λ (p : Compare × Lexemes). (condition.Test p.0, p.1))) (rw c.in-Some-4.is at c.in_ok-compare.ensures) ∙ test_at c.args.depth c.args.lexemes.now c.in_default.ensures c.in_default-behind_open.ensures
+unit-returns t c = subst (λ (r : Read). IfOk c.tested.result (λ o. seen o ≡ r)) (test_at c.args.depth c.args.lexemes.now c.in_default.ensures c.in_default-behind_open.ensures) c.tested.ensures

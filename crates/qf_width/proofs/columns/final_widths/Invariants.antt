@@ -1,9 +1,0 @@
-use Rattle.std.proofs.Common.{◌≡◌, ◌+◌, drop, length}
-use Rattle.qf_ir.specs.Width.{widths_from}
-use Rattle.qf_width.proofs.columns.final_widths.Given as goal
-
-abbrev pub invariant-loop-i : goal.invariant-loop-i
-invariant-loop-i l = record {
-  rest : widths_from (l.i + 1) (drop l.i l.statements) l.domains l.widths ≡ widths_from 1 l.statements l.domains l.fn.start;
-  len : length l.widths ≡ length l.fn.start;
-}
