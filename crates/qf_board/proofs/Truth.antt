@@ -16,6 +16,7 @@ use Rattle.qf_point.proofs.Leasts.{least_once}
 use Rattle.qf_board.specs.Boards.{BoardState, Place, Split, Refuted, Open, Held, Box, boxes, is_leaf, is_held, is_wanted, beats, has_ended, box_at, held_place, held_box, put_at, put_if, best_place, Event, Take, Refute, Cut, Found, GiveBack, after, after_all, CanHappen, start, better_of}
 use Rattle.qf_board.specs.Sound.{IsSound}
 use Rattle.qf_board.specs.Allowed.{IsAllowed, AreAllowed, HoldsNoRepair, IsTruthful, is_left, IsLeftIn}
+use Rattle.qf_board.specs.Laws.{StepsAreSound}
 use Rattle.qf_board.proofs.Lists.{all_put, all_at}
 use Rattle.qf_board.proofs.BoardLaws.{partition, count_by-cons, boxed_leaf, boxed_split, cut_nodes, held_fits, held_is_leaf, best_is_leaf, sound_after, sound_start, boxed_place}
 
@@ -39,6 +40,28 @@ and_both false b h = absurd (false≢true h)
 not_true : (a : Bool) → not a ≡ true → a ≡ false
 not_true true h = absurd (false≢true h)
 not_true false h = refl
+
+-- ---- the root box and the prices stay
+
+root_kept_put : (s : BoardState) (at : Option ℕ) (new : List Place) → ((put_if s at new).root ≡ s.root) × ((put_if s at new).prices ≡ s.prices)
+root_kept_put s None new = (refl, refl)
+root_kept_put s (Some k) new = (refl, refl)
+
+pub root_kept : (s : BoardState) (e : Event) → ((after s e).root ≡ s.root) × ((after s e).prices ≡ s.prices)
+root_kept s (Take e) = root_kept_put s (best_place s) (Held e ∷ [])
+root_kept s (Refute e row steps) = root_kept_put s (held_place s e) (Refuted row steps ∷ [])
+root_kept s (Cut e param cut row) = root_kept_put s (held_place s e) (Split param cut row ∷ Open ∷ Open ∷ [])
+root_kept s (Found e) = root_kept_put (record s { best = better_of s.prices s.best (option_map (cheapest s.prices) (held_box s e)) }) (held_place s e) (Open ∷ [])
+root_kept s (GiveBack e) = root_kept_put s (held_place s e) (Open ∷ [])
+
+pub root_kept_all : (s : BoardState) (events : List Event) → ((after_all s events).root ≡ s.root) × ((after_all s events).prices ≡ s.prices)
+root_kept_all s [] = (refl, refl)
+root_kept_all s (e ∷ events) =
+    let rest = root_kept_all (after s e) events in
+    let first = root_kept s e in
+    (rest.0 ∙ first.0, rest.1 ∙ first.1)
+
+-- ---- what repairs
 
 module _ (Repairs : List ℤ → Type 0) where
   pub answer_once : (region : Box) (prices : List Price) (a b : Option (List ℤ)) → IsAnswer Repairs region prices a → IsAnswer Repairs region prices b → a ≡ b
@@ -105,7 +128,31 @@ module _ (Repairs : List ℤ → Type 0) where
 
   -- ---- events that each have what they need for the problem
 
-  module _ (Refutes : Box → RowName → List Step → Type 0) (sound_steps : (b : Box) (row : RowName) (steps : List Step) → Refutes b row steps → (q : List ℤ) → In b q → Repairs q → ⊥) where
+  truthful_leaf : (s : BoardState) (k : ℕ) (n : Place) (found : Option (List ℤ)) → is_leaf n ≡ true → (k < length s.places) × (is_leaf (get_or s.places k Open) ≡ true) → IsSound s → IsTruthful Repairs s → HoldsNoRepair Repairs (box_at s k, n) → IfSome found (λ p. In s.root p × Repairs p) → IsTruthful Repairs (put_at (record s { best = found }) k (n ∷ []))
+  truthful_leaf s k n found leaf here sound truthful holds kept = record {
+    refuted = rw (boxed_leaf s.places (s.root ∷ []) k Open n leaf here.0 here.1 sound.stands) (all_put (HoldsNoRepair Repairs) (boxes s) ((box_at s k, n) ∷ []) k truthful.refuted (holds, tt));
+    found = kept;
+  }
+
+  truthful_cut : (s : BoardState) (k param : ℕ) (cut : ℤ) (row : RowName) → (k < length s.places) × (is_leaf (get_or s.places k Open) ≡ true) → IsSound s → IsTruthful Repairs s → IsTruthful Repairs (put_at s k (Split param cut row ∷ Open ∷ Open ∷ []))
+  truthful_cut s k param cut row here sound truthful = record {
+    refuted = rw (boxed_split s.places (s.root ∷ []) k Open param cut row here.0 here.1 sound.stands)
+        (all_put (HoldsNoRepair Repairs) (boxes s) (cut_nodes (box_at s k) param cut row) k truthful.refuted (tt, (tt, (tt, tt))));
+    found = truthful.found;
+  }
+
+  truthful_take : (s : BoardState) (e : ℕ) (at : Option ℕ) → best_place s ≡ at → IsSound s → IsTruthful Repairs s → IsTruthful Repairs (put_if s at (Held e ∷ []))
+  truthful_take s e None is sound truthful = truthful
+  truthful_take s e (Some k) is sound truthful = truthful_leaf s k (Held e) s.best refl (best_is_leaf s k is) sound truthful tt truthful.found
+
+  better_kept : (s : BoardState) (found : Option (List ℤ)) (p : List ℤ) → IfSome found (λ p. In s.root p × Repairs p) → In s.root p → Repairs p → IfSome (better_of s.prices found (Some p)) (λ p. In s.root p × Repairs p)
+  better_kept s found p kept inside repairs =
+      elim (beats s.prices found p) as (λ b. IfSome (cond b (Some p) found) (λ p. In s.root p × Repairs p)) [
+        | true ↦ (inside, repairs)
+        | false ↦ kept
+      ]
+
+  module _ (Refutes : Box → RowName → List Step → Type 0) where
     pub can_happen : (s : BoardState) (e : Event) → IsAllowed Repairs Refutes s e → CanHappen s e
     can_happen s (Take e) h = h
     can_happen s (Refute e row steps) h = (h.0, h.1)
@@ -113,81 +160,43 @@ module _ (Repairs : List ℤ → Type 0) where
     can_happen s (Found e) h = (h.0, h.1)
     can_happen s (GiveBack e) h = h
 
-    truthful_leaf : (s : BoardState) (k : ℕ) (n : Place) (found : Option (List ℤ)) → is_leaf n ≡ true → (k < length s.places) × (is_leaf (get_or s.places k Open) ≡ true) → IsSound s → IsTruthful Repairs s → HoldsNoRepair Repairs (box_at s k, n) → IfSome found (λ p. In s.root p × Repairs p) → IsTruthful Repairs (put_at (record s { best = found }) k (n ∷ []))
-    truthful_leaf s k n found leaf here sound truthful holds kept = record {
-      refuted = rw (boxed_leaf s.places (s.root ∷ []) k Open n leaf here.0 here.1 sound.stands) (all_put (HoldsNoRepair Repairs) (boxes s) ((box_at s k, n) ∷ []) k truthful.refuted (holds, tt));
-      found = kept;
-    }
+    -- where steps that refute a box leave no repair in it that lies in the root box
+    module _ (root : Box) (sound_steps : StepsAreSound Repairs Refutes root) where
+      pub truthful_after : (s : BoardState) (e : Event) → s.root ≡ root → IsAllowed Repairs Refutes s e → IsSound s → IsTruthful Repairs s → IsTruthful Repairs (after s e)
+      truthful_after s (Take e) at can sound truthful = truthful_take s e (best_place s) refl sound truthful
+      truthful_after s (Refute e row steps) at can sound truthful =
+          let within = (held_fits s e can.0 sound can.1).within in
+          let holds = λ (q : List ℤ) (inside : In (box_at s can.0) q) (repairs : Repairs q). sound_steps (box_at s can.0) row steps can.2 q (subst (λ (r : Box). In r q) at (within q inside)) inside repairs in
+          rw can.1 (truthful_leaf s can.0 (Refuted row steps) s.best refl (held_is_leaf s e can.0 can.1) sound truthful holds truthful.found)
+      truthful_after s (Cut e param cut row) at can sound truthful = rw can.1 (truthful_cut s can.0 param cut row (held_is_leaf s e can.0 can.1) sound truthful)
+      truthful_after s (Found e) at can sound truthful =
+          let fits = held_fits s e can.0 sound can.1 in
+          let key = cheapest s.prices (box_at s can.0) in
+          let inside : In s.root key = fits.within key (cheapest_in s.prices (box_at s can.0) (sound.priced ∙ sym fits.same) fits.spans) in
+          subst (λ (at : Option ℕ). IsTruthful Repairs (put_if (record s { best = better_of s.prices s.best (option_map (cheapest s.prices) (option_map (box_at s) at)) }) at (Open ∷ []))) (sym can.1)
+          (truthful_leaf s can.0 Open (better_of s.prices s.best (Some key)) refl (held_is_leaf s e can.0 can.1) sound truthful tt (better_kept s s.best key truthful.found inside can.2))
+      truthful_after s (GiveBack e) at can sound truthful = rw can.1 (truthful_leaf s can.0 Open s.best refl (held_is_leaf s e can.0 can.1) sound truthful tt truthful.found)
 
-    truthful_cut : (s : BoardState) (k param : ℕ) (cut : ℤ) (row : RowName) → (k < length s.places) × (is_leaf (get_or s.places k Open) ≡ true) → IsSound s → IsTruthful Repairs s → IsTruthful Repairs (put_at s k (Split param cut row ∷ Open ∷ Open ∷ []))
-    truthful_cut s k param cut row here sound truthful = record {
-      refuted = rw (boxed_split s.places (s.root ∷ []) k Open param cut row here.0 here.1 sound.stands)
-          (all_put (HoldsNoRepair Repairs) (boxes s) (cut_nodes (box_at s k) param cut row) k truthful.refuted (tt, (tt, (tt, tt))));
-      found = truthful.found;
-    }
+      pub kept_by_all : (s : BoardState) (events : List Event) → s.root ≡ root → AreAllowed Repairs Refutes s events → IsSound s → IsTruthful Repairs s → IsSound (after_all s events) × IsTruthful Repairs (after_all s events)
+      kept_by_all s [] at can sound truthful = (sound, truthful)
+      kept_by_all s (e ∷ events) at can sound truthful = kept_by_all (after s e) events ((root_kept s e).0 ∙ at) can.1 (sound_after s e (can_happen s e can.0) sound) (truthful_after s e at can.0 sound truthful)
 
-    truthful_take : (s : BoardState) (e : ℕ) (at : Option ℕ) → best_place s ≡ at → IsSound s → IsTruthful Repairs s → IsTruthful Repairs (put_if s at (Held e ∷ []))
-    truthful_take s e None is sound truthful = truthful
-    truthful_take s e (Some k) is sound truthful = truthful_leaf s k (Held e) s.best refl (best_is_leaf s k is) sound truthful tt truthful.found
+      -- any list of events after which the board has ended leaves the answer as the best found
+      pub answer_after : (prices : List Price) (explorers : ℕ) (events : List Event) → length prices ≡ length root → HasNoEmpty root → AreAllowed Repairs Refutes (start root prices explorers) events → has_ended (after_all (start root prices explorers) events) ≡ true → IsAnswer Repairs root prices (after_all (start root prices explorers) events).best
+      answer_after prices explorers events same spans can ended =
+          let s = start root prices explorers in
+          let kept = kept_by_all s events refl can (sound_start root prices explorers same spans) (record { refuted = (tt, tt); found = tt }) in
+          let stays = root_kept_all s events in
+          subst (λ (r : Box). IsAnswer Repairs r prices (after_all s events).best) stays.0
+          (subst (λ (ps : List Price). IsAnswer Repairs (after_all s events).root ps (after_all s events).best) stays.1 (ended_answer (after_all s events) kept.0 kept.1 ended))
 
-    better_kept : (s : BoardState) (found : Option (List ℤ)) (p : List ℤ) → IfSome found (λ p. In s.root p × Repairs p) → In s.root p → Repairs p → IfSome (better_of s.prices found (Some p)) (λ p. In s.root p × Repairs p)
-    better_kept s found p kept inside repairs =
-        elim (beats s.prices found p) as (λ b. IfSome (cond b (Some p) found) (λ p. In s.root p × Repairs p)) [
-          | true ↦ (inside, repairs)
-          | false ↦ kept
-        ]
+      -- so any two of them leave the same
+      pub same_answer : (prices : List Price) (m n : ℕ) (first second : List Event) → length prices ≡ length root → HasNoEmpty root → AreAllowed Repairs Refutes (start root prices m) first → AreAllowed Repairs Refutes (start root prices n) second → has_ended (after_all (start root prices m) first) ≡ true → has_ended (after_all (start root prices n) second) ≡ true → (after_all (start root prices m) first).best ≡ (after_all (start root prices n) second).best
+      same_answer prices m n first second same spans can can' ended ended' =
+          answer_once root prices _ _ (answer_after prices m first same spans can ended) (answer_after prices n second same spans can' ended')
 
-    pub truthful_after : (s : BoardState) (e : Event) → IsAllowed Repairs Refutes s e → IsSound s → IsTruthful Repairs s → IsTruthful Repairs (after s e)
-    truthful_after s (Take e) can sound truthful = truthful_take s e (best_place s) refl sound truthful
-    truthful_after s (Refute e row steps) can sound truthful =
-        rw can.1 (truthful_leaf s can.0 (Refuted row steps) s.best refl (held_is_leaf s e can.0 can.1) sound truthful (λ q inside repairs. sound_steps (box_at s can.0) row steps can.2 q inside repairs) truthful.found)
-    truthful_after s (Cut e param cut row) can sound truthful = rw can.1 (truthful_cut s can.0 param cut row (held_is_leaf s e can.0 can.1) sound truthful)
-    truthful_after s (Found e) can sound truthful =
-        let fits = held_fits s e can.0 sound can.1 in
-        let key = cheapest s.prices (box_at s can.0) in
-        let inside : In s.root key = fits.within key (cheapest_in s.prices (box_at s can.0) (sound.priced ∙ sym fits.same) fits.spans) in
-        subst (λ (at : Option ℕ). IsTruthful Repairs (put_if (record s { best = better_of s.prices s.best (option_map (cheapest s.prices) (option_map (box_at s) at)) }) at (Open ∷ []))) (sym can.1)
-        (truthful_leaf s can.0 Open (better_of s.prices s.best (Some key)) refl (held_is_leaf s e can.0 can.1) sound truthful tt (better_kept s s.best key truthful.found inside can.2))
-    truthful_after s (GiveBack e) can sound truthful = rw can.1 (truthful_leaf s can.0 Open s.best refl (held_is_leaf s e can.0 can.1) sound truthful tt truthful.found)
-
-    pub kept_by_all : (s : BoardState) (events : List Event) → AreAllowed Repairs Refutes s events → IsSound s → IsTruthful Repairs s → IsSound (after_all s events) × IsTruthful Repairs (after_all s events)
-    kept_by_all s [] can sound truthful = (sound, truthful)
-    kept_by_all s (e ∷ events) can sound truthful = kept_by_all (after s e) events can.1 (sound_after s e (can_happen s e can.0) sound) (truthful_after s e can.0 sound truthful)
-
-    root_kept_put : (s : BoardState) (at : Option ℕ) (new : List Place) → ((put_if s at new).root ≡ s.root) × ((put_if s at new).prices ≡ s.prices)
-    root_kept_put s None new = (refl, refl)
-    root_kept_put s (Some k) new = (refl, refl)
-
-    pub root_kept : (s : BoardState) (e : Event) → ((after s e).root ≡ s.root) × ((after s e).prices ≡ s.prices)
-    root_kept s (Take e) = root_kept_put s (best_place s) (Held e ∷ [])
-    root_kept s (Refute e row steps) = root_kept_put s (held_place s e) (Refuted row steps ∷ [])
-    root_kept s (Cut e param cut row) = root_kept_put s (held_place s e) (Split param cut row ∷ Open ∷ Open ∷ [])
-    root_kept s (Found e) = root_kept_put (record s { best = better_of s.prices s.best (option_map (cheapest s.prices) (held_box s e)) }) (held_place s e) (Open ∷ [])
-    root_kept s (GiveBack e) = root_kept_put s (held_place s e) (Open ∷ [])
-
-    pub root_kept_all : (s : BoardState) (events : List Event) → ((after_all s events).root ≡ s.root) × ((after_all s events).prices ≡ s.prices)
-    root_kept_all s [] = (refl, refl)
-    root_kept_all s (e ∷ events) =
-        let rest = root_kept_all (after s e) events in
-        let first = root_kept s e in
-        (rest.0 ∙ first.0, rest.1 ∙ first.1)
-
-    -- any list of events after which the board has ended leaves the answer as the best found
-    pub answer_after : (root : Box) (prices : List Price) (explorers : ℕ) (events : List Event) → length prices ≡ length root → HasNoEmpty root → AreAllowed Repairs Refutes (start root prices explorers) events → has_ended (after_all (start root prices explorers) events) ≡ true → IsAnswer Repairs root prices (after_all (start root prices explorers) events).best
-    answer_after root prices explorers events same spans can ended =
-        let s = start root prices explorers in
-        let kept = kept_by_all s events can (sound_start root prices explorers same spans) (record { refuted = (tt, tt); found = tt }) in
-        let stays = root_kept_all s events in
-        subst (λ (r : Box). IsAnswer Repairs r prices (after_all s events).best) stays.0
-        (subst (λ (ps : List Price). IsAnswer Repairs (after_all s events).root ps (after_all s events).best) stays.1 (ended_answer (after_all s events) kept.0 kept.1 ended))
-
-    -- so any two of them leave the same
-    pub same_answer : (root : Box) (prices : List Price) (m n : ℕ) (first second : List Event) → length prices ≡ length root → HasNoEmpty root → AreAllowed Repairs Refutes (start root prices m) first → AreAllowed Repairs Refutes (start root prices n) second → has_ended (after_all (start root prices m) first) ≡ true → has_ended (after_all (start root prices n) second) ≡ true → (after_all (start root prices m) first).best ≡ (after_all (start root prices n) second).best
-    same_answer root prices m n first second same spans can can' ended ended' =
-        answer_once root prices _ _ (answer_after root prices m first same spans can ended) (answer_after root prices n second same spans can' ended')
-
-    pub no_repair_lost : (root : Box) (prices : List Price) (explorers : ℕ) (events : List Event) → length prices ≡ length root → HasNoEmpty root → AreAllowed Repairs Refutes (start root prices explorers) events → IsTruthful Repairs (after_all (start root prices explorers) events) × ((q : List ℤ) → In root q → Repairs q → IsLeftIn (after_all (start root prices explorers) events) q)
-    no_repair_lost root prices explorers events same spans can =
-        let s = start root prices explorers in
-        let kept = kept_by_all s events can (sound_start root prices explorers same spans) (record { refuted = (tt, tt); found = tt }) in
-        (kept.1, λ q inside repairs. repair_left (after_all s events) q kept.0 kept.1 (subst (λ (r : Box). In r q) (sym (root_kept_all s events).0) inside) repairs)
+      pub no_repair_lost : (prices : List Price) (explorers : ℕ) (events : List Event) → length prices ≡ length root → HasNoEmpty root → AreAllowed Repairs Refutes (start root prices explorers) events → IsTruthful Repairs (after_all (start root prices explorers) events) × ((q : List ℤ) → In root q → Repairs q → IsLeftIn (after_all (start root prices explorers) events) q)
+      no_repair_lost prices explorers events same spans can =
+          let s = start root prices explorers in
+          let kept = kept_by_all s events refl can (sound_start root prices explorers same spans) (record { refuted = (tt, tt); found = tt }) in
+          (kept.1, λ q inside repairs. repair_left (after_all s events) q kept.0 kept.1 (subst (λ (r : Box). In r q) (sym (root_kept_all s events).0) inside) repairs)

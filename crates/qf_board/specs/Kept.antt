@@ -35,6 +35,12 @@ pub record IsKeyFor (prices : List Price) (region : Box) (number : ℕ) (key : K
   pub values : key.values.items ≡ cheapest prices region
   pub cost : key.cost ≡ cost prices (cheapest prices region)
 
+-- the keys are the one of the box under the number 0
+pub record IsOneKey (prices : List Price) (region : Box) (keys : List Key) : Type 0 where
+  pub key : Key
+  pub only : keys ≡ key ∷ []
+  pub is : IsKeyFor prices region 0 key
+
 -- one of the nodes has the key
 abbrev pub IsListed : List Price → Key → List Numbered → Type 0
 IsListed prices key [] = ⊥

@@ -1,8 +1,9 @@
-ghost use Rattle.std.specs.Prelude.{◌≡◌, ◌↔◌, ◌<◌, length, IsTrue, IfOk, OnOk, OnErr};
+ghost use Rattle.std.specs.Prelude.{◌≡◌, ◌↔◌, ◌<◌, [], ◌∷◌, None, length, replicate, IsTrue, IfOk, OnOk, OnErr};
 ghost use Rattle.qf_base.specs.declared.names.RowName.{RowName};
 ghost use Rattle.std.specs.Option.{is_some, option_copied};
 ghost use Rattle.std.specs.List.{list_any};
 ghost use Rattle.qf_point.specs.Points.{HasNoEmpty};
+ghost use Rattle.qf_board.specs.Kept.{IsOneKey};
 ghost use Rattle.qf_board.specs.Boards.{start, after, Take, Cut, GiveBack, Refute, Found, Holds, HoldsNone, CanHappen, boxes, is_wanted, best_box, node_count, has_ended, tree_of};
 
 use crate::keys::{Key, best_open, key_of};
@@ -44,6 +45,79 @@ impl Model for Board {
     ghost invariant = { IsKept };
 }
 
+// What a board keeps beside its root box and the old constants.
+#[derive(Drop)]
+struct FirstParts {
+    best: Best,
+    room: Point,
+    held: Vec<Option<usize>>,
+    left: BTreeSet<Key>,
+    links: Vec<Link>,
+}
+
+// The root box as the first node, an open leaf.
+fn first_link(alloc: Global, root: &PBox) -> Result<Vec<Link>, NoMemory>
+    ensures { IfOk result (λ links. links.items ≡ record { node = record { region = root.now; kind = Kind.Open }; next = None } ∷ []) }
+{
+    let region = root.copy(alloc)?;
+    let mut links = Vec::new(alloc);
+    links.push(Link {
+        node: BoxNode {
+            region,
+            kind: Kind::Open,
+        },
+        next: None,
+    })?;
+    Ok(links)
+}
+
+// The key of the root box under the number 0. The room becomes a point of as many values.
+fn first_key(
+    alloc: Global,
+    root: &PBox,
+    olds: &List<i64>,
+    room: &mut Point,
+) -> Result<BTreeSet<Key>, NoMemory>
+    requires olds { length olds.now ≡ length root.now }
+    requires room { length room.old ≡ length root.now }
+    requires spans { HasNoEmpty root.now }
+    ensures room { length room.new ≡ length root.now }
+    ensures key { IfOk result (λ left. IsOneKey olds.now root.now left.keys) }
+{
+    let mut left = BTreeSet::new(alloc);
+    left.insert(key_of(alloc, olds, root, 0, room)?)?;
+    Ok(left)
+}
+
+// What a board keeps of the root box as one open leaf that no explorer holds, with nothing found.
+fn first_parts(
+    alloc: Global,
+    root: &PBox,
+    olds: &List<i64>,
+    explorers: u32,
+) -> Result<FirstParts, NoMemory>
+    requires same { length olds.now ≡ length root.now }
+    requires spans { HasNoEmpty root.now }
+    ensures best { IfOk result (λ o. o.best ≡ record { best = None; params = length olds.now }) }
+    ensures room { IfOk result (λ o. length o.room ≡ length olds.now) }
+    ensures held { IfOk result (λ o. o.held.items ≡ replicate explorers None) }
+    ensures left { IfOk result (λ o. IsOneKey olds.now root.now o.left.keys) }
+    ensures links { IfOk result (λ o. o.links.items ≡ record { node = record { region = root.now; kind = Kind.Open }; next = None } ∷ []) }
+{
+    let best = Best::new(alloc, olds)?;
+    let mut room = Point::new(alloc, olds)?;
+    let held = vec![in alloc; None::<usize>; explorers as usize]?;
+    let left = first_key(alloc, root, olds, &mut room)?;
+    let links = first_link(alloc, root)?;
+    Ok(FirstParts {
+        best,
+        room,
+        held,
+        left,
+        links,
+    })
+}
+
 impl Board {
     /// The root box as one open leaf, with nothing found.
     pub fn open(
@@ -56,32 +130,33 @@ impl Board {
         requires spans { HasNoEmpty root }
         ensures { IfOk result (λ board. board ≡ start root olds explorers) }
     {
-        let best = Best::new(alloc, &olds)?;
-        let mut room = Point::new(alloc, &olds)?;
-        let mut left = BTreeSet::new(alloc);
-        left.insert(key_of(alloc, &olds, &root, 0, &mut room)?)?;
-        let held = vec![in alloc; None::<usize>; explorers as usize]?;
-        let region = root.copy(alloc)?;
-        let mut links = Vec::new(alloc);
-        links.push(Link {
-            node: BoxNode {
-                region,
-                kind: Kind::Open,
-            },
-            next: None,
-        })?;
-        Ok(Board {
-            alloc,
-            root,
-            olds,
-            links,
-            held,
-            left,
-            counted: 0,
-            holding: 0,
-            best,
-            room,
-        })
+        match first_parts(alloc, &root, &olds, explorers) {
+            Ok(
+                FirstParts {
+                    best,
+                    room,
+                    held,
+                    left,
+                    links,
+                },
+            ) => Ok(Board {
+                alloc,
+                root,
+                olds,
+                links,
+                held,
+                left,
+                counted: 0,
+                holding: 0,
+                best,
+                room,
+            }),
+            Err(fault) => {
+                drop(root);
+                drop(olds);
+                Err(fault)
+            }
+        }
     }
 
     /// Whether this explorer is one of the board's and holds no box: then it may take one.

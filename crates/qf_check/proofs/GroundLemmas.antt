@@ -22,8 +22,8 @@ use Rattle.qf_instance.specs.Instances.{case_circuit, system_or, hull_or}
 use Rattle.qf_instance.specs.RowSystems.{IsRowSystem}
 use Rattle.qf_check.specs.declared.grounds.Grounds.{Grounds}
 use Rattle.qf_base.specs.declared.names.RowName.TheVariants.{Start, Inserted}
-use Rattle.qf_check.specs.declared.made.Made.{Made}
-use Rattle.qf_check.specs.RowsMade.{AreMade, made_of}
+use Rattle.qf_instance.specs.declared.made.Made.{Made}
+use Rattle.qf_instance.specs.RowsMade.{AreMade, made_of}
 use Rattle.qf_check.specs.Undoing.{AreVars}
 use Rattle.qf_check.proofs.SelectorLemmas.{selectors_rise}
 use Rattle.qf_check.specs.Grounding.{instance, FitsBox}

@@ -1,6 +1,5 @@
 pub mod Undoing
 pub mod Splits
-pub mod RowsMade
 pub mod Grounding
 pub mod Walking
 pub mod Judging

@@ -15,7 +15,7 @@ use Rattle.qf_check.specs.declared.verdict.CheckFault.TheVariants.{Rejected, NoM
 use Rattle.qf_check.specs.declared.grounds.Grounds.{Grounds}
 use Rattle.qf_check.specs.declared.walk.Walk.{Walk}
 use Rattle.qf_check.specs.Splits.{boxes_of, boxes_to_come, LieIn}
-use Rattle.qf_check.specs.RowsMade.{AreMade}
+use Rattle.qf_instance.specs.RowsMade.{AreMade}
 use Rattle.qf_check.specs.Grounding.{instance}
 
 abbrev pub lowest : Option ℕ → ℕ → ℕ

@@ -13,7 +13,7 @@ use std::alloc::Global;
 
 /// A split on the way to the box at hand: the place of the parameter, from 0, its interval before, the cut, and whether the
 /// box at hand lies in the upper half.
-#[derive(Clone, Copy, Debug)]
+#[derive(Clone, Copy)]
 pub struct Frame {
     pub place: u32,
     pub whole: (i64, i64),
@@ -22,7 +22,7 @@ pub struct Frame {
 }
 
 /// The box at hand, and the splits that led to it.
-#[derive(Debug, Drop)]
+#[derive(Drop)]
 pub struct Boxes {
     pub region: PBox,
     pub frames: Stack<Frame>,

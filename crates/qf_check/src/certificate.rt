@@ -15,11 +15,11 @@ ghost use Rattle.qf_check.specs.Judging.{IsAnswered, IsJudged, Holds, HoldsIn, L
 
 use crate::boxes::Boxes;
 use crate::grounds::Grounds;
-use crate::made::Made;
 use crate::verdict::{CheckFault, Verdict};
 use crate::walk::Walk;
 use qf_base::{NoMemory, PBox, Point};
 use qf_goal::Problem;
+use qf_instance::Made;
 use qf_point::cost;
 use qf_slice::{needed_list, root_box};
 use qf_tree::{Answer, Cert};

@@ -6,15 +6,14 @@ ghost use Rattle.qf_circuit.specs.Circuits.{hull_of};
 ghost use Rattle.qf_encode.specs.Lives.{BoxIn};
 ghost use Rattle.qf_tree.specs.Refutations as refutation;
 ghost use Rattle.qf_tree.specs.Certificates as spec;
-ghost use Rattle.qf_check.specs.RowsMade.{AreMade};
+ghost use Rattle.qf_instance.specs.RowsMade.{AreMade};
 ghost use Rattle.qf_check.specs.Grounding.{instance, AreGrounds, FitsBox};
 
 use crate::boxes::cuts_inside;
-use crate::made::Made;
 use crate::refuting::first_wrong_step;
 use qf_base::{List, NoMemory, PBox, Point, RowName};
 use qf_goal::Problem;
-use qf_instance::{RowSystem, has_row, is_marked};
+use qf_instance::{Made, RowSystem, has_row, is_marked};
 use qf_lin::Step;
 use qf_point::{better, cheapest, cost};
 use qf_tree::{Answer, Node};

@@ -4,7 +4,6 @@
 mod boxes;
 mod certificate;
 mod grounds;
-mod made;
 mod refuting;
 mod stack;
 mod verdict;

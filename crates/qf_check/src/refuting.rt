@@ -17,7 +17,7 @@ use qf_tree::apply_step;
 use std::alloc::Global;
 
 /// What changed an interval: a tight step, or the case that a selector is 0 or 1.
-#[derive(Clone, Copy, Debug)]
+#[derive(Clone, Copy)]
 pub enum Cause {
     Tight,
     Zero,
@@ -25,7 +25,7 @@ pub enum Cause {
 }
 
 /// A change of an interval: what did it, the variable, from 1, and the interval before.
-#[derive(Clone, Copy, Debug)]
+#[derive(Clone, Copy)]
 pub struct Change {
     pub cause: Cause,
     pub var: u32,
@@ -33,7 +33,7 @@ pub struct Change {
 }
 
 /// The bounds that are still to be refuted: those at hand, and the other cases of the changes that led to them.
-#[derive(Debug, Drop)]
+#[derive(Drop)]
 pub struct Refuting {
     pub bounds: Intervals,
     // how many intervals have their greatest value below their least

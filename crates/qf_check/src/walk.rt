@@ -14,9 +14,9 @@ ghost use Rattle.qf_tree.specs.Sizes.{cuts_its_box};
 
 use crate::boxes::Boxes;
 use crate::grounds::{Grounds, later};
-use crate::made::Made;
 use crate::verdict::CheckFault;
 use qf_base::{NoMemory, Point};
+use qf_instance::Made;
 use qf_tree::Node;
 
 /// How far a walk has come: the boxes at hand and to come, the systems that were made, room for a point, the next line, the

@@ -99,36 +99,36 @@ params_given point defs names = λ place inside.
     let own = (eval_keeps point defs names).each place inside in
     param_given point (eval point defs) (slice_index_or (eval point defs) place (pos 0)) (slice_index_or defs place (Const (pos 0))) own
 
--- ---- a repair satisfies the system of each row
+-- ---- where a row meets its goal, its values satisfy its system
 
 pub outcome_is : (plan : Plan) (table : Table) (row : RowName) (point : List ℤ) → RowExists plan row → final_outcome plan table row point ≡ ending_of (birth (length plan.columns) table.rows plan.statements row point) point
 outcome_is plan table (Start k) point exists = outcome-start (length plan.columns) table.rows plan.statements k point exists.0
 outcome_is plan table (Inserted k) point exists = outcome-inserted (length plan.columns) table.rows plan.statements k point exists.0
 
-module _ (case : Case) (root region : Bounds) (row : RowName) (q : List ℤ) (sound : IsSoundCase case) (exists : RowExists case.plan row) (in_root : IsWithin q root) (in_region : IsWithin q region) (mended : mends case q ≡ true) where
+module _ (case : Case) (root region : Bounds) (row : RowName) (q : List ℤ) (sound : IsSoundCase case) (exists : RowExists case.plan row) (in_root : IsWithin q root) (in_region : IsWithin q region) (met : meets (outcome_at case q row) (goal_at case row) ≡ true) where
   abbrev Satisfies : Option Coded → Type 0
   Satisfies o = (values : List ℤ) × AllHold (system_or root (goal_at case row) o).inequalities values × IsWithin values (hull_or region o)
 
   by_birth : (c : Coded) (b : Option Birth) → IsCircuit c.circuit → CodesBirth q (Some c) b → meets (ending_of b q) (goal_at case row) ≡ true → Satisfies (Some c)
-  by_birth c None circuit codes met = absurd codes
-  by_birth c (Some b) circuit codes met =
+  by_birth c None circuit codes ends = absurd codes
+  by_birth c (Some b) circuit codes ends =
       let m = last_moment q b.rest b.first in
-      let fits = goal_fits m.live m.cells (goal_at case row) met in
+      let fits = goal_fits m.live m.cells (goal_at case row) ends in
       let here = eval_in_hull c.circuit root q circuit.names in_root in
       let params = params_given q c.circuit circuit.names in
       let said = row_encoded c m (goal_at case row) root q (eval q c.circuit) codes circuit in_root here params fits in
-      (eval q c.circuit, said.1 (refl, met), eval_in_hull c.circuit region q circuit.names in_region)
+      (eval q c.circuit, said.1 (refl, ends), eval_in_hull c.circuit region q circuit.names in_region)
 
   by_circuit : (o : Option Coded) → case_circuit case row ≡ o → Satisfies o
   by_circuit None e = ([], All-nil (λ row. Holds row []), record { same_length = refl; each = λ place inside. absurd (omega (arith, inside)) })
   by_circuit (Some c) e =
       let born = birth (length case.plan.columns) case.table.rows case.plan.statements row q in
-      let met : meets (ending_of born q) (goal_at case row) ≡ true =
-      subst (λ o. meets o (goal_at case row) ≡ true) (outcome_is case.plan case.table row q exists) (row_met case q row sound exists mended) in
-      by_birth c born (plan_circuit case.plan case.table row c sound.plan sound.belongs e) (plan_lives case.plan case.table row c q sound.plan sound.belongs e) met
+      let ends : meets (ending_of born q) (goal_at case row) ≡ true =
+      subst (λ o. meets o (goal_at case row) ≡ true) (outcome_is case.plan case.table row q exists) met in
+      by_birth c born (plan_circuit case.plan case.table row c sound.plan sound.belongs e) (plan_lives case.plan case.table row c q sound.plan sound.belongs e) ends
 
-  pub repair_satisfies : Satisfies (case_circuit case row)
-  repair_satisfies = by_circuit (case_circuit case row) refl
+  pub met_satisfies : Satisfies (case_circuit case row)
+  met_satisfies = by_circuit (case_circuit case row) refl
 
 -- ---- the law
 
@@ -140,7 +140,8 @@ faithful_by case root is_needed sound is = record {
       let slice = loses-no-repair case root sound is q inside mended in
       (slice.point, IsWithin-In root slice.point slice.inside, slice.mends, slice.as_good);
   encoded = λ row region q there in_root in_region mended.
-      repair_satisfies case root region row q sound (row_exists_is case.plan row there) in_root in_region mended;
+      let exists = row_exists_is case.plan row there in
+      met_satisfies case root region row q sound exists in_root in_region (row_met case q row sound exists mended);
 }
 
 pub faithful : InstancesAreFaithful

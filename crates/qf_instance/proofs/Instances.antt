@@ -1,5 +1,5 @@
 -- A problem has one instance.
-use Rattle.std.proofs.Common.{◌≡◌, ◌∙◌, ap, sym, refl, inl, inr, ℕ, ◌-◌, ◌≤◌, nat_le, Bool, true, false, List, length, arith}
+use Rattle.std.proofs.Common.{◌≡◌, ◌∙◌, ap, sym, subst, refl, inl, inr, ℕ, ◌-◌, ◌≤◌, nat_le, Bool, true, false, List, length, arith}
 use Rattle.std.proofs.Math.Path.{fun_ext}
 use Rattle.std.specs.Bool.{Decides}
 use Rattle.std.proofs.lemmas.Bool.{and_parts, and_from, cases_lt, false≢true}
@@ -13,8 +13,10 @@ use Rattle.qf_slice.specs.Marks.{mark_at, AreNeeded}
 use Rattle.qf_slice.specs.RootBox.{IsNeeded}
 use Rattle.qf_slice.proofs.Numbers.{needed-reaches}
 use Rattle.qf_slice.proofs.Slices.{root-boxes-equal}
-use Rattle.qf_tree.specs.Certificates.{Instance}
+use Rattle.qf_tree.specs.Certificates.{Instance, IsValid}
+use Rattle.qf_tree.specs.Lean.{IsLean}
 use Rattle.qf_instance.specs.Instances.{system_or, hull_or, instance_of, is_marked}
+use Rattle.qf_instance.specs.Leanness.{aims_of, LeannessIsOne}
 use Rattle.qf_instance.specs.Laws.{InstancesExist, MarksMakeInstances, InstancesAreOne, RowsAreOfTheInstance}
 
 pub exist : InstancesExist
@@ -56,4 +58,10 @@ pub rows_are_its : RowsAreOfTheInstance
 rows_are_its case inst row made x is = (
   ap (λ (i : Instance). i.system row) x.is ∙ ap (system_or inst.root (goal_at case row)) is.coded ∙ sym is.system,
   λ region. ap (λ (i : Instance). i.hull row region) x.is ∙ ap (hull_or region) is.coded,
+)
+
+pub leanness_is_one : LeannessIsOne
+leanness_is_one case inst region cert x = (
+  (λ v. subst (λ i. IsValid i region cert) (one case v.inst inst v.is_instance x) v.valid, λ valid. record { inst = inst; is_instance = x; valid = valid }),
+  (λ l. subst (λ i. IsLean i (aims_of case) region cert) (one case l.inst inst l.is_instance x) l.lean, λ lean. record { inst = inst; is_instance = x; lean = lean }),
 )

@@ -6,3 +6,4 @@ pub mod Claims
 pub mod Cells
 pub mod Goals
 pub mod Systems
+pub mod Witnesses

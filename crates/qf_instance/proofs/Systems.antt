@@ -100,6 +100,12 @@ rows_fit system bounds vars formed small some = record {
 
 -- ---- a row
 
+pub row_formed : (case : Case) (root : Bounds) (row : RowName) → IsSoundCase case → (c : Coded) → case_circuit case row ≡ Some c → IsWellFormed (system_of c root (goal_at case row))
+row_formed case root row sound c e =
+    let plan = case.plan in
+    let table = case.table in
+    system_well_formed (length plan.columns) c root (goal_at case row) (plan_circuit plan table row c sound.plan sound.belongs e) (plan_size plan table row c sound.plan sound.belongs e) sound.plan.few_columns (plan_names plan table row c sound.plan sound.belongs e)
+
 module _ (case : Case) (root : Bounds) (row : RowName) (sound : IsSoundCase case) (is : IsRootBox case root) (ends : HaveSmallEnds case.domains.region) (exists : RowExists case.plan row) (c : Coded) (e : case_circuit case row ≡ Some c) where
   row_circuit : IsCircuit c.circuit
   row_circuit = plan_circuit case.plan case.table row c sound.plan sound.belongs e
@@ -124,7 +130,7 @@ module _ (case : Case) (root : Bounds) (row : RowName) (sound : IsSoundCase case
   small_in_root region box = small_in_domains region (box_within region root case.domains.region box (root_in_domains case root sound is))
 
   formed : IsWellFormed (system_of c root (goal_at case row))
-  formed = system_well_formed (length case.plan.columns) c root (goal_at case row) row_circuit row_few sound.plan.few_columns (plan_names case.plan case.table row c sound.plan sound.belongs e)
+  formed = row_formed case root row sound c e
 
   fits_in_root : (region : Bounds) → BoxIn region root → RowsFit (system_of c root (goal_at case row)) (hull_of region c.circuit)
   fits_in_root region box =

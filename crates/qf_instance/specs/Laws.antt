@@ -1,5 +1,5 @@
 -- Certificates for a problem: what they speak of is one thing, and where they are valid their claims hold.
-use Rattle.std.specs.Prelude.{◌≡◌, ℕ, ◌-◌, Bool, List, length, ℤ, IsTrue}
+use Rattle.std.specs.Prelude.{◌≡◌, ℕ, ◌-◌, Bool, false, List, length, ℤ, IsTrue}
 use Rattle.std.specs.FinSet as set
 use Rattle.std.specs.Ordering.{nat_cmp}
 use Rattle.qf_base.specs.declared.names.Bound.{Bound}
@@ -7,9 +7,11 @@ use Rattle.qf_base.specs.declared.names.RowName.{RowName}
 use Rattle.qf_base.specs.Values.{Bounds, IsWithin}
 use Rattle.qf_lin.specs.declared.inequality.System.{System}
 use Rattle.qf_lin.specs.Inequalities.{with_bound}
+use Rattle.qf_lin.specs.Steps.{is_closable}
 use Rattle.qf_circuit.specs.Circuits.{hull_of}
 use Rattle.qf_point.specs.Points.{lower_half, upper_half}
-use Rattle.qf_goal.specs.Case.{Case}
+use Rattle.qf_ir.specs.Plan.{RowExists}
+use Rattle.qf_goal.specs.Case.{Case, misses}
 use Rattle.qf_goal.specs.SeedPlaces.{case_seeds}
 use Rattle.qf_goal.specs.SoundCase.{IsSoundCase}
 use Rattle.qf_slice.specs.Marks.{AreNeeded, IsNeededSet}
@@ -77,3 +79,9 @@ BoxesHalve =
 abbrev pub BoundsKeepFit : Type 0
 BoundsKeepFit =
     (system : System) (bounds : Bounds) (var : ℕ) (bound : Bound) → FitsUnlessEmpty system bounds → FitsUnlessEmpty system (with_bound bounds var bound)
+
+-- a point at which a row meets its goal keeps the row from closing the boxes that the point lies in
+abbrev pub WitnessesLeaveOpen : Type 0
+WitnessesLeaveOpen =
+    (case : Case) (inst : Instance) (row : RowName) (region : Bounds) (point : List ℤ) → IsSoundCase case → IsInstance case inst → RowExists case.plan row → misses case point row ≡ false
+    → IsWithin point inst.root → IsWithin point region → is_closable (inst.system row) (inst.hull row region) ≡ false

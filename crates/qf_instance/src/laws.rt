@@ -1,4 +1,5 @@
-ghost use Rattle.qf_instance.specs.Laws.{InstancesExist, MarksMakeInstances, InstancesAreOne, InstancesAreFaithful, ValidCertificatesAreTrue, ValidRegionsAreTrue, RowsAreOfTheInstance, RootBoxesSpan, BoxesHold, BoxesHalve, BoundsKeepFit};
+ghost use Rattle.qf_instance.specs.Laws.{InstancesExist, MarksMakeInstances, InstancesAreOne, InstancesAreFaithful, ValidCertificatesAreTrue, ValidRegionsAreTrue, RowsAreOfTheInstance, RootBoxesSpan, BoxesHold, BoxesHalve, BoundsKeepFit, WitnessesLeaveOpen};
+ghost use Rattle.qf_instance.specs.Leanness.{LeannessIsOne};
 
 /// The root box of a problem and the set of its needed parameters make an instance. Like the other laws it holds of the
 /// definitions, and the call does nothing.
@@ -54,4 +55,16 @@ pub fn boxes_halve()
 /// A system that can be used over bounds can be used over them after a bound is taken, unless they are empty then.
 pub fn bounds_keep_fit()
     ensures { BoundsKeepFit }
+{}
+
+/// A certificate is valid, or lean, for the problem exactly where it is so for any instance of the problem; the complained
+/// rows of a lean one, and the first row that misses its goal, are the problem's.
+pub fn leanness_is_one()
+    ensures { LeannessIsOne }
+{}
+
+/// Where a row meets its goal at a point of the root box, the row closes no box that the point lies in: its own values there
+/// satisfy its system. So one replay shows that a box is not closable by the row, and no sweep is needed.
+pub fn witnesses_leave_open()
+    ensures { WitnessesLeaveOpen }
 {}

@@ -21,7 +21,7 @@ use qf_system::system_of;
 use std::alloc::Global;
 
 /// The circuit of a row, and the inequalities that say that the row meets its goal.
-#[derive(Debug, Drop)]
+#[derive(Drop)]
 pub struct RowSystem {
     pub coded: Coded,
     pub system: System,

@@ -2,7 +2,7 @@ use qf_base::List;
 
 /// The sum of factors times variables is at least `least`. A variable is a number from 1. In the inequalities that are
 /// worked with the variables differ and no factor is 0.
-#[derive(Debug, Drop)]
+#[derive(Drop)]
 pub struct Inequality {
     /// Factors and their variables.
     pub terms: List<(i64, u32)>,
@@ -10,7 +10,7 @@ pub struct Inequality {
 }
 
 /// Inequalities over the variables 1 to `vars`, and which of these are selectors. Inequalities count from 1.
-#[derive(Debug, Drop)]
+#[derive(Drop)]
 pub struct System {
     pub inequalities: List<Inequality>,
     pub vars: u32,

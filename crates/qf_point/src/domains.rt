@@ -9,7 +9,7 @@ use std::alloc::Global;
 use std::marker::Model;
 
 /// A record of the domain of a parameter, which counts from 1: its least and its greatest value.
-#[derive(Clone, Copy, Debug, PartialEq, Eq)]
+#[derive(Clone, Copy, PartialEq, Eq)]
 pub struct DomainRow {
     pub param: u32,
     pub lo: i64,
@@ -18,7 +18,7 @@ pub struct DomainRow {
 
 /// Why records are no domains: the least value of a parameter is above its greatest, an end leaves -2^50 to 2^50, or the
 /// old constant is outside.
-#[derive(Clone, Copy, Debug, PartialEq, Eq)]
+#[derive(Clone, Copy, PartialEq, Eq)]
 pub enum DomainFault {
     Empty(u32),
     TooLarge(u32),
@@ -51,7 +51,7 @@ impl DomainFault {
 }
 
 /// The domain of each parameter, which holds its old constant.
-#[derive(Debug, Drop)]
+#[derive(Drop)]
 pub struct Domains {
     alloc: Global,
     olds: List<i64>,

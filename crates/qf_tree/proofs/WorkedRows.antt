@@ -1,6 +1,6 @@
 -- A table of one cell 0 and the log `UPDATE t SET a = a + 5`, whose constant may be 0 to 10, with the complaint that the
 -- cell should be 9: a certificate of the repair 9, and what is wrong with others.
-use Rattle.std.proofs.Common.{◌≡◌, ℕ, ◌==◌, ◌&&◌, Bool, false, List, [], ◌∷◌, ℤ, pos, neg_ℤ, int_le, Option, Some, None, refl}
+use Rattle.std.proofs.Common.{◌≡◌, ℕ, ◌==◌, ◌&&◌, Bool, false, List, [], ◌∷◌, ℤ, pos, neg_ℤ, int_le, Option, Some, None, refl, sym, arith, not, cond, All, inl, inr}
 use Rattle.qf_base.specs.Values.{Bounds, interval_of_var}
 use Rattle.qf_base.specs.declared.names.Bound.TheVariants.{Low}
 use Rattle.qf_base.specs.declared.names.RowName.{RowName}
@@ -12,7 +12,10 @@ use Rattle.qf_tree.specs.declared.tree.Node.TheVariants.{Split, Refuted, Dear, O
 use Rattle.qf_tree.specs.declared.cert.Answer.{Answer}
 use Rattle.qf_tree.specs.declared.cert.Answer.TheVariants.{Repair, Nothing, Budget, Best}
 use Rattle.qf_tree.specs.declared.cert.Cert.{Cert}
-use Rattle.qf_tree.specs.Certificates.{Instance, first_bad_line, at_least}
+use Rattle.qf_tree.specs.Certificates.{Instance, first_bad_line, at_least, placed}
+use Rattle.qf_tree.specs.Lean.{Aims, NodeIsLean, IsLean}
+use Rattle.std.proofs.lemmas.Bool.{false≢true}
+use Rattle.std.proofs.lemmas.List.Elements.{All-cons, All-nil}
 
 abbrev is_first : RowName → Bool
 is_first (Start n) = n == 1
@@ -85,3 +88,30 @@ nothing_open = refl
 
 least_open : at_least one_cell one_cell.root (cert Budget (pos 8) (pos 9) Open) ≡ 4
 least_open = refl
+
+-- ---- lean trees
+
+-- what lean trees look at: the row is complained, and misses its goal at every point but 9
+abbrev aims : Aims
+aims = record {
+  complained = Start 1 ∷ [];
+  misses = λ point row. not (is_nine point);
+  first_missed = λ point. cond (is_nine point) None (Some (Start 1));
+}
+
+abbrev nine_cert : Cert
+nine_cert = cert (Repair (pos 9 ∷ [])) (pos 8) (pos 9) Dear
+
+nine_nodes : All (λ leaf. NodeIsLean one_cell aims nine_cert leaf) (placed (one_cell.root ∷ []) nine_cert.tree.nodes)
+nine_nodes =
+    All-cons (λ leaf. NodeIsLean one_cell aims nine_cert leaf) ((pos 0, pos 10) ∷ [], Split 1 (pos 8) (Start 1)) (placed (((pos 0, pos 8) ∷ []) ∷ ((pos 9, pos 10) ∷ []) ∷ []) (Refuted (Start 1) (Tight 4 4 (Low (pos 9)) ∷ Empty ∷ []) ∷ Dear ∷ [])) (refl, refl, refl, refl)
+    (All-cons (λ leaf. NodeIsLean one_cell aims nine_cert leaf) ((pos 0, pos 8) ∷ [], Refuted (Start 1) (Tight 4 4 (Low (pos 9)) ∷ Empty ∷ [])) (((pos 9, pos 10) ∷ [], Dear) ∷ []) (inr (inl refl), refl)
+    (All-cons (λ leaf. NodeIsLean one_cell aims nine_cert leaf) ((pos 9, pos 10) ∷ [], Dear) [] tt
+    (All-nil (λ leaf. NodeIsLean one_cell aims nine_cert leaf))))
+
+-- over 0 to 8 the row closes the box, so it may not be split
+abbrev closed_cert : Cert
+closed_cert = record { answer = Nothing; tree = record { nodes = Split 1 (pos 4) (Start 1) ∷ Dear ∷ Dear ∷ [] } }
+
+closed_box_split : IsLean one_cell aims ((pos 0, pos 8) ∷ []) closed_cert → ⊥
+closed_box_split lean = false≢true (sym (lean.nodes 0 ((pos 0, pos 8) ∷ [], Dear) (omega arith)).1)

@@ -72,6 +72,10 @@ line_fits line.Dear = true
 line_fits line.Open = true
 line_fits line.End = true
 
+-- each step can be written: its numbers are in their ranges
+abbrev pub StepsFit : List Step → Type 0
+StepsFit steps = All (λ (s : Step). IsTrue (line_fits (step_line s))) steps
+
 -- ---- whole trees and refutations
 
 -- the steps are so many refutations one after another, and no more: one is any tight steps, and then `Empty`, or `Case`

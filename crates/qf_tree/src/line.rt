@@ -3,7 +3,7 @@ use qf_base::{Bound, RowName};
 
 /// A line of a certificate's text: the head, the answer, a node of the tree, a step of the refutation that stands under
 /// a `Refuted` line, or the end. Parameters, inequalities, variables and rows are numbered from 1.
-#[derive(Debug, Drop)]
+#[derive(Drop)]
 pub enum Line {
     Head,
     Answer(Answer),

@@ -8,15 +8,16 @@ ghost use Rattle.qf_base.specs.declared.names.RowName.{RowName as Name};
 ghost use Rattle.qf_goal.specs.Case.{Case};
 ghost use Rattle.qf_ir.specs.Plan.{RowExists};
 ghost use Rattle.qf_slice.specs.RootBox.{IsRootBox};
-ghost use Rattle.qf_check.specs.RowsMade.{AreMade, HoldsMade, made_of};
+ghost use Rattle.qf_instance.specs.RowsMade.{AreMade, HoldsMade, made_of};
 
+use crate::{RowSystem, row_system};
 use qf_base::{NoMemory, PBox, RowName};
 use qf_goal::Problem;
-use qf_instance::{RowSystem, row_system};
 use std::alloc::Global;
 use std::collections::BTreeMap;
 
-/// The systems that were made, by the numbers of their rows.
+/// The systems of rows that were made, each once: those of the table's rows and those of inserted rows, by the numbers of
+/// the rows, from 1.
 #[derive(Drop)]
 pub struct Made {
     pub starts: BTreeMap<u32, RowSystem>,
@@ -56,7 +57,8 @@ impl Made {
         }
     }
 
-    /// Makes the system of a row, unless it is made.
+    /// Makes the system of a row of the problem over its root box, unless it is made. Those that were made stay. The only
+    /// refusal is want of memory.
     pub fn make(
         &mut self,
         alloc: Global,
@@ -83,7 +85,7 @@ impl Made {
         }
     }
 
-    /// The system of a row.
+    /// The system of a row, which was made.
     pub fn get(&self, row: RowName) -> &RowSystem
         requires { IsSome (made_of self.now row) }
         ensures { made_of self.now row ≡ Some result.now }

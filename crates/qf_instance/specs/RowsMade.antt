@@ -10,7 +10,7 @@ use Rattle.qf_base.specs.declared.names.RowName.TheVariants.{Start, Inserted}
 use Rattle.qf_goal.specs.Case.{Case}
 use Rattle.qf_instance.specs.declared.row.RowSystem.{RowSystem}
 use Rattle.qf_instance.specs.RowSystems.{IsRowSystem}
-use Rattle.qf_check.specs.declared.made.Made.{Made}
+use Rattle.qf_instance.specs.declared.made.Made.{Made}
 
 -- what stands under a number is the system of the row of that number
 abbrev pub HoldsMade : Case → Bounds → (ℕ → RowName) → BTreeMap ℕ RowSystem → Type 0

@@ -1,7 +1,7 @@
 use Rattle.std.proofs.Common.{refl}
 use Rattle.std.proofs.lemmas.Result.{on_ok_weaker}
 use Rattle.qf_base.specs.declared.names.RowName.TheVariants.{Start, Inserted}
-use Rattle.qf_check.proofs.made.Made.make.Goals as goal
+use Rattle.qf_instance.proofs.made.Made.make.Goals as goal
 
 pub returns-in-Start-clause-made : goal.returns-in-Start-clause-made
 returns-in-Start-clause-made c =
