@@ -1,0 +1,4 @@
+mod Closing
+mod Examples
+mod FourSweeps
+mod Replays

@@ -1,0 +1,4 @@
+pub mod Derivations
+pub mod Rows
+mod QuietRows
+pub mod SmallBounds
