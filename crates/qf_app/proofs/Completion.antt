@@ -1,10 +1,10 @@
 -- Where the desk tells the files of a command, no count of faults rose, and memory was not wanting, the files fix the status.
-use Rattle.std.proofs.Common.{◌≡◌, ◌⊎◌, ◌↔◌, ℕ, List, [], ◌∷◌, Option, Some, None, Result, Ok, Err, inl, inr, refl, ⊎_elim, sym, ◌∙◌, subst}
+use Rattle.std.proofs.Common.{◌≡◌, ◌⊎◌, ◌↔◌, ℕ, List, [], ◌∷◌, Option, Some, None, Result, Ok, Err, inl, inr, refl, ⊎_elim, sym, ◌∙◌, subst, arith}
 use Rattle.qf_base.specs.Desk.{DeskState}
 use Rattle.qf_base.specs.declared.refusal.Refusal.{Refusal}
 use Rattle.qf_base.specs.declared.status.Status.{Status}
 use Rattle.qf_base.specs.declared.status.Status.TheVariants.{Done, Nothing, Budget, Refused, ReadFault, WriteFault, NoMemory, Usage, Rejected}
-use Rattle.qf_goal.specs.Case.{Case, HasNoRepair}
+use Rattle.qf_goal.specs.Case.{Case}
 use Rattle.qf_inputs.specs.Opened.{IsQuestion}
 use Rattle.qf_inputs.specs.Story.{IsStory}
 use Rattle.qf_inputs.specs.declared.opened.Opened.{Opened}
@@ -14,19 +14,24 @@ use Rattle.qf_shell.specs.Completeness.{AreShort, IsAnsweredBy, AnswersFiles}
 use Rattle.qf_shell.specs.Promise.{refusal_answer, too_long}
 use Rattle.qf_shell.specs.declared.answer.Answer.{Answer}
 use Rattle.qf_app.proofs.Certifying.{done_or_rejected, proof_is_done}
-use Rattle.qf_app.proofs.Fitting.{found_good, asked_are_one, replayed_are_one, carried}
-use Rattle.qf_app.specs.Answers.{or_refused, IsAsked, IsFoundWith, IsFound, IsReplayed, IsFinalTable, AreItsParameters, answers_of}
+use Rattle.qf_tree.specs.declared.cert.Answer.{Answer as Claim}
+use Rattle.qf_tree.specs.declared.cert.Answer.TheVariants as claim
+use Rattle.qf_tree.specs.declared.tree.Tree.{Tree}
+use Rattle.qf_app.proofs.Ending.{said_with}
+use Rattle.qf_app.proofs.Fitting.{replayed_are_one, carried}
+use Rattle.qf_app.specs.Answers.{or_refused, IsReplayed, IsFinalTable, AreItsParameters, answers_of}
 use Rattle.qf_app.specs.Checking.{IsProof, IsChecked, IsCheckedWith}
-use Rattle.qf_app.specs.Complete.{IsPlainRun, FilesAreRefused, IsFirstRefusal, HasRepair, StatusTells, IsComplete, IsCompleteFor}
+use Rattle.qf_app.specs.Complete.{IsPlainRun, FilesAreRefused, IsFirstRefusal, DiagnosisTells, StatusTells, IsComplete, IsCompleteFor}
+use Rattle.qf_app.specs.Finding.{IsFound, Says}
 use Rattle.qf_app.specs.Promise.{Promise}
-use Rattle.qf_app.specs.Request.{Request, diagnose, check, replay, params, input_words, output_words}
+use Rattle.qf_app.specs.Request.{Diagnosis, Request, diagnose, check, replay, params, input_words, output_words}
 
 -- ---- what is refused has its refusal
 
 pub fit_refused : (request : Request) (files : List (List ℕ)) (refusal : Refusal) (answer : Answer)
     → FilesAreRefused request files refusal → answers_of request files answer → answer ≡ refusal_answer refusal
 fit_refused (diagnose words) (initial ∷ log ∷ complaints ∷ domains ∷ []) refusal answer is h =
-    carried (IsFound log) h.asked (Err refusal) answer (asked_are_one initial log complaints domains h.asked (Err refusal) h.is_asked is) h.answer_is
+    carried (IsFound words log) h.opened (Err refusal) answer (questions_are_one initial log complaints domains h.opened (Err refusal) h.question is) h.answer_is
 fit_refused (check words) (initial ∷ log ∷ complaints ∷ domains ∷ certificate ∷ []) refusal answer is h =
     carried (λ (o : Opened). IsChecked o.problem certificate) h.opened (Err refusal) answer
     (questions_are_one initial log complaints domains h.opened (Err refusal) h.is_question is) h.answer_is
@@ -44,6 +49,14 @@ not_refused s t is other e = other (sym is ∙ e)
 neither_refused : (s t u : Status) → (s ≡ t) ⊎ (s ≡ u) → (t ≡ Refused → ⊥) → (u ≡ Refused → ⊥) → s ≡ Refused → ⊥
 neither_refused s t u (inl is) first second e = first (sym is ∙ e)
 neither_refused s t u (inr is) first second e = second (sym is ∙ e)
+
+none_of_three_refused : (s t u v : Status) → (s ≡ t) ⊎ ((s ≡ u) ⊎ (s ≡ v)) → (t ≡ Refused → ⊥) → (u ≡ Refused → ⊥) → (v ≡ Refused → ⊥) → s ≡ Refused → ⊥
+none_of_three_refused s t u v (inl is) first second third e = first (sym is ∙ e)
+none_of_three_refused s t u v (inr (inl is)) first second third e = second (sym is ∙ e)
+none_of_three_refused s t u v (inr (inr is)) first second third e = third (sym is ∙ e)
+
+budget_not_refused : Budget ≡ Refused → ⊥
+budget_not_refused e = cc
 
 done_not_refused : Done ≡ Refused → ⊥
 done_not_refused e = cc
@@ -63,8 +76,9 @@ refused_by answers (Err refusal) answer never h refused = (refusal, refl)
 pub only_refused : (request : Request) (files : List (List ℕ)) (answer : Answer) → answers_of request files answer → answer.status ≡ Refused
     → (refusal : Refusal) × FilesAreRefused request files refusal
 only_refused (diagnose words) (initial ∷ log ∷ complaints ∷ domains ∷ []) answer h refused =
-    let r = refused_by (IsFound log) h.asked answer (λ opened found. neither_refused answer.status Done Nothing (found_good log opened answer.status answer.line found.found) done_not_refused nothing_not_refused) h.answer_is refused in
-    (r.0, subst (IsAsked initial log complaints domains) r.1 h.is_asked)
+    let r = refused_by (IsFound words log) h.opened answer
+    (λ opened found. none_of_three_refused answer.status Done Nothing Budget (said_with words log opened found.cert.tree found.cert.answer answer.status answer.line found.says) done_not_refused nothing_not_refused budget_not_refused) h.answer_is refused in
+    (r.0, subst (IsQuestion initial log complaints domains) r.1 h.question)
 only_refused (check words) (initial ∷ log ∷ complaints ∷ domains ∷ certificate ∷ []) answer h refused =
     let r = refused_by (λ (o : Opened). IsChecked o.problem certificate) h.opened answer
     (λ opened checked. neither_refused answer.status Done Rejected (done_or_rejected opened.problem certificate answer.status answer.line checked.checked) done_not_refused rejected_not_refused) h.answer_is refused in
@@ -79,9 +93,6 @@ only_refused request files answer h refused = absurd h
 
 -- ---- what is accepted has the status that the files call for
 
-abbrev TellsRepair : Case → Status → Type 0
-TellsRepair case status = ((status ≡ Done) ↔ HasRepair case) × ((status ≡ Nothing) ↔ HasNoRepair case)
-
 abbrev TellsProof : Case → List ℕ → Status → Type 0
 TellsProof case certificate status = ((status ≡ Done) ↔ IsProof case certificate) × ((status ≡ Rejected) ↔ (IsProof case certificate → ⊥))
 
@@ -91,23 +102,39 @@ done_not_nothing e = cc
 done_not_rejected : Done ≡ Rejected → ⊥
 done_not_rejected e = cc
 
-found_tells : (log : List ℕ) (opened : Opened) (status : Status) (line : List ℕ) → IsFoundWith log opened status line → TellsRepair opened.problem status
-found_tells log opened Done line found =
-    let least = found.least in (
-      (λ e. (found.point, least.inside, least.repairs), λ has. refl),
-      (λ e. absurd (done_not_nothing e), λ none. absurd (none found.point least.inside least.repairs)),
-    )
-found_tells log opened Nothing line found = (
-  (λ e. absurd (done_not_nothing (sym e)), λ has. absurd (found.none has.0 has.1 has.2)),
-  (λ e. found.none, λ none. refl),
-)
-found_tells log opened Budget line found = absurd found
-found_tells log opened Refused line found = absurd found
-found_tells log opened ReadFault line found = absurd found
-found_tells log opened WriteFault line found = absurd found
-found_tells log opened NoMemory line found = absurd found
-found_tells log opened Usage line found = absurd found
-found_tells log opened Rejected line found = absurd found
+done_not_budget : Done ≡ Budget → ⊥
+done_not_budget e = cc
+
+nothing_not_budget : Nothing ≡ Budget → ⊥
+nothing_not_budget e = cc
+
+found_tells : (words : Diagnosis) (log : List ℕ) (opened : Opened) (tree : Tree) (c : Claim) (s : Status) (line : List ℕ) → Says words log opened tree c s line → DiagnosisTells words opened s
+found_tells words log opened tree (claim.Repair point) s line says =
+    let least = says.1.least in
+    record {
+      repair = λ e. (point, least.inside, least.repairs);
+      none = λ e. absurd (done_not_nothing (sym says.0 ∙ e));
+      found = λ has. inl says.0;
+      not_found = λ none. absurd (none point least.inside least.repairs);
+      suffices = λ enough e. done_not_budget (sym says.0 ∙ e);
+    }
+found_tells words log opened tree claim.Nothing s line says = record {
+  repair = λ e. absurd (done_not_nothing (sym e ∙ says.0));
+  none = λ e. says.1.none;
+  found = λ has. absurd (says.1.none has.0 has.1 has.2);
+  not_found = λ none. inl says.0;
+  suffices = λ enough e. nothing_not_budget (sym says.0 ∙ e);
+}
+found_tells words log opened tree claim.Budget s line says =
+    let many = says.1.budget.many in
+    record {
+      repair = λ e. absurd (done_not_budget (sym e ∙ says.0));
+      none = λ e. absurd (nothing_not_budget (sym e ∙ says.0));
+      found = λ has. inr says.0;
+      not_found = λ none. inr says.0;
+      suffices = λ enough e. omega (arith, many, enough);
+    }
+found_tells words log opened tree (claim.Best point) s line says = absurd says
 
 checked_tells : (case : Case) (certificate : List ℕ) (status : Status) (line : List ℕ) → IsCheckedWith case certificate status line → TellsProof case certificate status
 checked_tells case certificate Done line checked = (
@@ -129,8 +156,8 @@ checked_tells case certificate Rejected line checked =
 
 pub tells : (request : Request) (files : List (List ℕ)) (answer : Answer) → answers_of request files answer → StatusTells request files answer.status
 tells (diagnose words) (initial ∷ log ∷ complaints ∷ domains ∷ []) answer h = λ opened is.
-    found_tells log opened answer.status answer.line
-    (carried (IsFound log) h.asked (Ok opened) answer (asked_are_one initial log complaints domains h.asked (Ok opened) h.is_asked is) h.answer_is).found
+    let found = carried (IsFound words log) h.opened (Ok opened) answer (questions_are_one initial log complaints domains h.opened (Ok opened) h.question is) h.answer_is in
+    found_tells words log opened found.cert.tree found.cert.answer answer.status answer.line found.says
 tells (check words) (initial ∷ log ∷ complaints ∷ domains ∷ certificate ∷ []) answer h = λ opened is.
     checked_tells opened.problem certificate answer.status answer.line
     (carried (λ (o : Opened). IsChecked o.problem certificate) h.opened (Ok opened) answer

@@ -4,7 +4,7 @@ pub mod FinalCodes
 pub mod Finding
 pub mod Splicing
 pub mod Ending
-pub mod Asking
 pub mod Reading
 pub mod Alone
 pub mod Completion
+pub mod Accepting

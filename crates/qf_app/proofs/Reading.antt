@@ -7,18 +7,15 @@ use Rattle.qf_inputs.specs.Story.{IsStory}
 use Rattle.qf_inputs.specs.declared.opened.Opened.{Opened}
 use Rattle.qf_inputs.specs.declared.story.Story.{Story}
 use Rattle.qf_shell.specs.declared.answer.Answer.{Answer}
-use Rattle.qf_app.specs.Answers.{or_refused, if_few_points, IsFound, IsDiagnosis, IsCheck, if_narrow, IsFinalTable, IsTable, AreItsParameters, AreParameters}
+use Rattle.qf_app.specs.Answers.{or_refused, IsDiagnosis, IsCheck, if_narrow, IsFinalTable, IsTable, AreItsParameters, AreParameters}
 use Rattle.qf_app.specs.Checking.{IsChecked}
+use Rattle.qf_app.specs.Finding.{IsFound}
 use Rattle.qf_app.specs.Request.{Diagnosis}
 
 pub diagnosis_is : {E : Type 0} (words : Diagnosis) (initial log complaints domains : List ℕ) (read : Result Opened Refusal) (result : Result Answer E)
-    → IsQuestion initial log complaints domains read → IfOk result (or_refused (IsFound log) (if_few_points read)) → IfOk result (IsDiagnosis words initial log complaints domains)
+    → IsQuestion initial log complaints domains read → IfOk result (or_refused (IsFound words log) read) → IfOk result (IsDiagnosis words initial log complaints domains)
 diagnosis_is words initial log complaints domains read (Err e) question answer = tt
-diagnosis_is words initial log complaints domains read (Ok a) question answer = record {
-  asked = if_few_points read;
-  is_asked = record { opened = read; question = question; asked_is = refl };
-  answer_is = answer;
-}
+diagnosis_is words initial log complaints domains read (Ok a) question answer = record { opened = read; question = question; answer_is = answer }
 
 pub check_is : {E : Type 0} (initial log complaints domains certificate : List ℕ) (read : Result Opened Refusal) (result : Result Answer E)
     → IsQuestion initial log complaints domains read → IfOk result (or_refused (λ (o : Opened). IsChecked o.problem certificate) read)

@@ -1,9 +1,10 @@
 pub mod Request
 pub mod Meaning
 pub mod Parameters
-pub mod Findings
 pub mod Checking
+pub mod Finding
 pub mod Answers
 pub mod Promise
 pub mod Complete
+pub mod Laws
 pub mod RequestExamples

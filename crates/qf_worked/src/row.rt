@@ -22,7 +22,8 @@ impl From<NoMemory> for Fault {
 pub type Files = Vec<(Text, List<u8>)>;
 
 /// The name, the command's words and the files of a row, the number of the desk's call that fails (0 for none); and the
-/// status, what is said and what is put as `K`, as they must come out.
+/// status, what is said and what is put as `K`, as they must come out. Where `checked` has bytes, what is put is not `put`
+/// but a certificate of which `check` says them, for the same files; it has the bytes `contained` in it.
 #[derive(Drop)]
 pub struct Row<'a> {
     pub name: &'a str,
@@ -32,6 +33,8 @@ pub struct Row<'a> {
     pub status: Option<u64>,
     pub said: List<u8>,
     pub put: List<u8>,
+    pub checked: List<u8>,
+    pub contained: List<u8>,
 }
 
 fn is_file(name: &str) -> bool {
@@ -44,8 +47,13 @@ fn place_of(files: &[(Text, List<u8>)], name: &str) -> Option<usize>
     files.iter().position(|file| file.0.as_str() == name)
 }
 
-// Makes these the bytes of the file with this name.
-fn set_file(alloc: Global, files: &mut Files, name: &str, bytes: List<u8>) -> Result<(), NoMemory> {
+/// Makes these the bytes of the file with this name.
+pub fn set_file(
+    alloc: Global,
+    files: &mut Files,
+    name: &str,
+    bytes: List<u8>,
+) -> Result<(), NoMemory> {
     match place_of(files.as_slice(), name) {
         Some(place) => files[place].1 = bytes,
         None => {
@@ -82,7 +90,8 @@ fn add(bytes: &mut List<u8>, piece: &[u8], times: u64) -> Result<(), NoMemory> {
     Ok(())
 }
 
-fn copy_of(alloc: Global, files: &Files) -> Result<Files, NoMemory> {
+/// The files once more.
+pub fn copy_of(alloc: Global, files: &Files) -> Result<Files, NoMemory> {
     let mut copy = Vec::new(alloc);
     for (name, bytes) in files {
         let name = Text::new(alloc, name.as_str())?;
@@ -111,6 +120,8 @@ impl<'a> Row<'a> {
             status: None,
             said: List::new(alloc),
             put: List::new(alloc),
+            checked: List::new(alloc),
+            contained: List::new(alloc),
         }
     }
 
@@ -124,6 +135,8 @@ impl<'a> Row<'a> {
             status: self.status,
             said: List::from_slice(alloc, self.said.as_slice())?,
             put: List::from_slice(alloc, self.put.as_slice())?,
+            checked: List::from_slice(alloc, self.checked.as_slice())?,
+            contained: List::from_slice(alloc, self.contained.as_slice())?,
         })
     }
 
@@ -151,11 +164,15 @@ impl<'a> Row<'a> {
         Ok(())
     }
 
-    // Makes a text the bytes of a file, or of what is put.
+    // Makes a text the bytes of a file, or what is said of what is put.
     fn set(&mut self, alloc: Global, name: &str, text: &str) -> Result<(), Fault> {
         let bytes = unescaped(alloc, text)?;
         if name == "puts" {
             self.put = bytes;
+        } else if name == "checked" {
+            self.checked = bytes;
+        } else if name == "contains" {
+            self.contained = bytes;
         } else if is_file(name) {
             set_file(alloc, &mut self.files, name, bytes)?;
         } else {

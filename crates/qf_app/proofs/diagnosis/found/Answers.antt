@@ -1,9 +1,10 @@
-use Rattle.qf_app.proofs.Asking.{best_is}
-use Rattle.qf_app.proofs.Splicing.{is_point_of}
+use Rattle.qf_app.specs.Meaning as meaning
+use Rattle.qf_app.proofs.Finding.{found_is}
 use Rattle.qf_app.proofs.diagnosis.found.Goals as goal
 
-pub repaired-requires-clause-point : goal.repaired-requires-clause-point
-repaired-requires-clause-point c =
-    let opened = c.args.opened.now in
-    is_point_of opened.log opened.problem c.in-Some.point c.requires.read.olds c.note_sound.ensures.sound c.note_sound.ensures.ends
-    (best_is opened.problem c.in_ok-point.field-0 c.in-Some.point c.in-Some.is c.in_ok-point.ensures)
+pub returns-in-Ok : goal.returns-in-Ok
+returns-in-Ok c =
+    let e = c.with_certificate.ensures in
+    let solved = c.in_ok-found.ensures c.args.opened.now.root c.requires.searchable.root in
+    found_is (meaning.diagnosis c.args.words.now) c.args.log.now c.args.opened.now c.in_ok-found.found c.in-Ok.said.0 c.in-Ok.said.1 c.with_certificate.result
+    solved c.in-Ok.ensures e.status (rw c.certificate_of.ensures at e.files) e.line
