@@ -23,6 +23,12 @@ class Examples(support.Case):
                     status, said, _ = program.run(folder, "check", *WORDS, cert)
                     self.assertEqual((status, said[:10]), (0, b"accepted: "), said)
 
+    def test_help_and_version(self):
+        program = Program(support.PROGRAM)
+        for word, begins in [("--version", b"qfix "), ("--help", b"qfix: which constants")]:
+            status, said, fault = program.run(self.place, word)
+            self.assertEqual((status, said[: len(begins)]), (0, begins), fault)
+
 
 if __name__ == "__main__":
     unittest.main()
