@@ -10,4 +10,6 @@ mod desks;
 #[cfg(test)]
 mod runs;
 #[cfg(test)]
+mod search;
+#[cfg(test)]
 mod streams;
